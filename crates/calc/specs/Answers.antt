@@ -9,11 +9,11 @@ use Rattle.calc.specs.declared.asking.Query.the-variants.{Code, Limit, Size, N
 use Rattle.domain.specs.declared.fault.Fault.{Fault}
 use Rattle.domain.specs.declared.number.Number.{Number}
 use Rattle.domain.specs.Answers.{sized, negated, added, multiplied, factored, inverted}
-use Rattle.domain.specs.Bytes.{bytes}
+use Rattle.byte.specs.Bytes.{bytes}
 use Rattle.domain.specs.Fields.{domain-of}
-use Rattle.domain.specs.Integers.{integers}
+use Rattle.whole.specs.Integers.{integers}
 use Rattle.domain.specs.Model.{Model}
-use Rattle.domain.specs.Residues.{residues}
+use Rattle.residue.specs.Residues.{residues}
 use Rattle.std.specs.declared.option.Option.{Option}
 use Rattle.std.specs.declared.option.Option.the-variants.{Some, None}
 use Rattle.std.specs.declared.result.Result.{Result}

@@ -4,19 +4,19 @@ ghost use mathlib.Core.Bool.{cond};
 ghost use Rattle.calc.specs.Answers.{asked, field-asked, told, replied};
 use crate::asking::DomainName;
 use crate::asking::Query;
-use domain::byte::Bytes;
-use domain::byte::BytesArithmetic;
+use byte::Bytes;
+use byte::BytesArithmetic;
 use domain::domain::Domain;
 use domain::fault::Fault;
 use domain::field::Field;
 use domain::finite::Finite;
 use domain::finite::FiniteField;
 use domain::number::Number;
-use domain::residue::Residues;
-use domain::residue::ResiduesArithmetic;
-use domain::whole::Whole;
-use domain::whole::WholeDomain;
+use residue::Residues;
+use residue::ResiduesArithmetic;
 use std::fmt;
+use whole::Whole;
+use whole::WholeDomain;
 
 #[derive(Clone, Copy)]
 pub enum Answer {

@@ -1,12 +1,4 @@
-pub mod ByteLaws
-pub mod ByteProducts
 pub mod Coded
-pub mod Euclid
 pub mod FieldDomains
-pub mod Fitting
-pub mod IntegerLaws
-pub mod IntegerRing
-pub mod Modular
-pub mod ResidueLaws
 pub mod Rings
 pub mod Tests

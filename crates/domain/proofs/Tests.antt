@@ -4,11 +4,8 @@ use mathlib.Core.Bool.{Bool, true, _&&_}
 use mathlib.Core.Logic.{inl, inr}
 use Prim.Native.Nat.{ℕ, zero, suc, _<_}
 use native.Mathlib.Nat.{eq-or-lt-of-le, le-of-suc-le-suc, not-suc-le-zero}
-use mathlib.Core.List.{List}
 use lib.Dec.{eqb}
-use lib.ListN.{getD}
 use Rattle.std.proofs.shelf.Tests.{and-parts, eqb-true}
-use Rattle.domain.specs.Tables.{Table}
 
 -- the test f passes at each number below n
 abbrev pub every : ℕ → (ℕ → Bool) → Bool
@@ -31,8 +28,3 @@ agree-at n f g e k h = eqb-true (f k) (g k) (at n (λ m. eqb (f m) (g m)) e k h)
 -- and of two numbers, each below n
 pub agree-at-two : (n : ℕ) (f g : ℕ → ℕ → ℕ) → every n (λ k. agree n (f k) (g k)) ≡ true → (k m : ℕ) → k < n → m < n → f k m ≡ g k m
 agree-at-two n f g e k m hk hm = agree-at n (f k) (g k) (at n (λ j. agree n (f j) (g j)) e k hk) m hm
-
--- the rule of a table, by a test that tells it of one entry
-pub table-by : (n : ℕ) (P : ℕ → ℕ → Type 0) (test : ℕ → ℕ → Bool) → ((k x : ℕ) → test k x ≡ true → P k x)
-    → (xs : List ℕ) → every n (λ k. test k (getD xs k 0)) ≡ true → Table n P xs
-table-by n P test tells xs e = record { rule = λ k h. tells k (getD xs k 0) (at n (λ m. test m (getD xs m 0)) e k h) }

@@ -1,12 +1,7 @@
 pub mod Answers
-pub mod Bytes
-pub mod Divisors
 pub mod Faults
 pub mod Fields
-pub mod Integers
 pub mod Model
 pub mod Numbers
 pub mod Remainders
-pub mod Residues
 pub mod Ring
-pub mod Tables

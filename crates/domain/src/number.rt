@@ -1,6 +1,5 @@
 // Whole numbers as callers hold them.
 ghost use mathlib.Core.Path.{_≡_};
-ghost use Prim.Native.Nat.{_<_, _^_};
 ghost use lib.IntN.{pos};
 ghost use Rattle.domain.specs.Numbers.{number as numbered, is-zero, no-code, held};
 use crate::fault::Fault;
@@ -46,10 +45,9 @@ impl Number {
         }
     }
 
-    pub(crate) fn of(n: u32) -> Number
-        requires { ⌜ n < 2 ^ 31 ⌝ }
+    pub fn of(n: u16) -> Number
         ensures { λ r. ⌜ r ≡ numbered (pos n) ⌝ }
     {
-        Number { int: n as i32 }
+        Number { int: i32::from(n) }
     }
 }

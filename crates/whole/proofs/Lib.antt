@@ -1,0 +1,4 @@
+pub mod Euclid
+pub mod Fitting
+pub mod IntegerLaws
+pub mod IntegerRing
