@@ -1,0 +1,15 @@
+pub mod Coefficients
+pub mod Degree
+pub mod Diagrams
+pub mod Elements
+pub mod Entries
+pub mod Examples
+pub mod Growth
+pub mod Lists
+pub mod Masses
+pub mod Needs
+pub mod Polynomials
+pub mod Rivals
+pub mod Theorems
+pub mod Trees
+pub mod Working
