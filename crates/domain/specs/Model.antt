@@ -20,12 +20,14 @@ pub record Model (E : Type 0) : Type 0 where
   pub code : E → Number
   pub factor : Number → Number → Number × Number × Number
 
+-- the laws of sizes
 pub record Sizes {E : Type 0} (M : Model E) : Type 0 where
   pub sum : (a b : E) → M .size (M .ring .add a b) ≤ M .size a + M .size b
   pub product : (a b : E) → M .size (M .ring .mul a b) ≡ M .size a * M .size b
   -- every size is 0, or that of zero alone
   pub kinds : ((a : E) → M .size a ≡ 0) ⊎ ((a : E) → (M .size a ≡ 0) ↔ (a ≡ M .ring .zero))
 
+-- the laws of the limit and of codes
 pub record Codes {E : Type 0} (M : Model E) : Type 0 where
   pub least : 1 ≤ M .limit
   pub most : M .limit ≤ 2147483647

@@ -7,20 +7,35 @@ use std::alloc::Refused;
 
 #[derive(Clone, Copy, PartialEq, Eq, Debug)]
 pub enum Fault {
+    // 1: a letter order of so many letters that is empty or too long, or has a wrong letter or one twice
     BadOrder { letters: usize },
+    // 2: a capacity outside 1 to 1,024
     BadCapacity { asked: usize },
+    // 3: a letter that is not in the order
     UnknownLetter { letter: u8 },
+    // 4: a number that is no code, or is zero where it divides
     NoCode { number: i64 },
+    // 5: a reference to this entry that is not lawful
     Unlawful { entry: usize },
+    // 6: a mass over this limit, or a result without a code
     OverLimit { limit: u32 },
+    // 7: degrees that add up to this, which is too much
     OverDegree { degree: usize },
+    // 8: no room in a table of this capacity
     Full { capacity: usize },
+    // 9: a flow or a text of a wrong length
     BadLength { bytes: usize },
+    // 10: a malformed record
     Malformed,
+    // 11: not a formula from this place on
     NoFormula { place: usize },
+    // 12: more than a buffer of this length, or a flow, can hold
     NoRoom { room: usize },
+    // 13: so many exponents, unequal in number to the letters
     BadExponents { given: usize },
+    // 14: judge input that is not four lines, or has an unknown domain word
     BadInput,
+    // want of memory, outside the fourteen
     Memory,
 }
 

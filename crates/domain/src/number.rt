@@ -45,6 +45,7 @@ impl Number {
         }
     }
 
+    // A small natural number.
     pub fn of(n: u16) -> Number
         ensures { λ r. ⌜ r ≡ numbered (pos n) ⌝ }
     {

@@ -1,12 +1,10 @@
--- The working polynomials of a product, and the entries that it requires.
+-- The working polynomials of a product.
 use mathlib.Core.Path.{_≡_}
 use mathlib.Core.Logic.{_≢_}
 use Prim.Native.Nat.{ℕ, _≤_, _<_}
-use Rattle.domain.specs.Model.{Model}
 use Rattle.domain.specs.Ring.{Ring}
-use Rattle.polynomial.specs.Needs.{Splits, Needs}
+use Rattle.polynomial.specs.Needs.{Splits}
 use Rattle.polynomial.specs.Polynomials.{Polynomial, Poly, letter, down}
-use Rattle.polynomial.specs.Trees.{Tree}
 
 -- f has no letter
 abbrev pub Constant : {E : Type 0} (R : Ring E) (k : ℕ) → Polynomial E k → Type 0
@@ -35,9 +33,3 @@ pub data Working {E : Type 0} (R : Ring E) (k : ℕ) (r : Polynomial E k) : Poly
   times : (x : ℕ) (f a h g : Polynomial E k) → Leads R k x f a h g → r ≡ Poly R k .mul (letter R k x) (Poly R k .mul h g) → Working R k r f g
   whole : (x : ℕ) (f a h g : Polynomial E k) → Leads R k x f a h g → r ≡ Poly R k .mul f g → Working R k r f g
   other : (f g : Polynomial E k) → Trails R k f g → Working R k r g f → Working R k r f g
-
--- s is required by the product of f and g: it is in the diagram of a working polynomial
-pub record Product-needs {E : Type 0} (M : Model E) (k : ℕ) (f g : Polynomial E k) (s : Tree E) : Type 0 where
-  pub r : Polynomial E k
-  pub working : Working (M .ring) k r f g
-  pub needs : Needs M k r s
