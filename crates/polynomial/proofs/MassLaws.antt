@@ -1,4 +1,4 @@
--- The weight of a sum is at most the sum of the weights, and that of a product at most their product.
+-- The mass of a sum is at most the sum of the masses, and that of a product at most their product.
 use mathlib.Core.Path.{_≡_, refl, sym, ap, _∙_}
 use Prim.Native.Nat.{ℕ, zero, suc, _+_, _*_, _≤_}
 use native.Mathlib.Omega.{arith}

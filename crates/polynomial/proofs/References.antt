@@ -1,4 +1,4 @@
--- Every polynomial that weighs no more than the limit has a lawful reference.
+-- Every polynomial with a mass within the limit has a lawful reference.
 use mathlib.Core.Path.{_≡_, refl, sym, ap, ap₂, _∙_}
 use Prim.Native.Nat.{ℕ, zero, suc, _+_, _*_, _<_, _≤_}
 use native.Mathlib.Omega.{arith}

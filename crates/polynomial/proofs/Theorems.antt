@@ -26,7 +26,7 @@ use Rattle.polynomial.proofs.Pigeonhole.{among-left, among-right, among-either
 use Rattle.polynomial.proofs.References.{found}
 use Rattle.polynomial.proofs.GrowingTrees.{equal-dec}
 use Rattle.polynomial.proofs.GrowthLaws.{grown-alike, grown-length, then-done, stopped, not-both}
-use Rattle.polynomial.proofs.TreeMasses.{mass-const, mass-mass, mass-value}
+use Rattle.polynomial.proofs.TreeMasses.{mass-const, mass-tree, mass-value}
 use Rattle.polynomial.proofs.Parts.{needs-inside, inside-needs}
 use Rattle.polynomial.proofs.RivalShapes.{least-entries as fewest, attained as met}
 use Rattle.polynomial.proofs.SeriesRing.{poly-laws}
@@ -57,7 +57,7 @@ module _ {E : Type 0} (M : Model E) (S : Sound M) (k : ℕ) where
     sum = λ d. mass-norm M (facts S) d k .sum;
     product = λ d. mass-norm M (facts S) d k .prod;
     bounded = bounded-value (S .laws) k;
-    entry = λ d. mass-mass M (facts S) d k;
+    entry = λ d. mass-tree M (facts S) d k;
     reference = λ d. mass-value M (facts S) d k;
     weight = λ w t r l. let h = le-mass M (facts S) k w t r in omega (arith, h, l .light);
   }

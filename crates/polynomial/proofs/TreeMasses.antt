@@ -1,4 +1,4 @@
--- The weight of what a reduced tree means is the tree's mass.
+-- The mass of what a reduced tree stands for can be read off the tree.
 use mathlib.Core.Path.{_≡_, refl, ap, ap₂, _∙_, fun-ext, subst}
 use mathlib.Core.Logic.{_≢_}
 use Prim.Native.Nat.{ℕ, zero, suc, _+_, _*_, _≤_, _<_}
@@ -123,20 +123,20 @@ module _ {E : Type 0} (M : Model E) (S : Facts M) (d : ℕ) where
       ap (λ v. total v d) (fun-ext (λ i. ap (λ v. mass M d k (Poly R k .add (f i) v)) (embed-mul (poly-laws (S .laws) k) (letter R k x) g i) ∙ mass-split k x (omega arith) (f i) (g i) (ap (λ v. v i) e) (s i)))
       ∙ total-add (λ i. mass M d k (f i)) (λ i. mass M d k (g i)) d
 
-  pub mass-mass : (k : ℕ) (t : Tree E) → Reduced M k t → height t ≤ d → mass M d k (meaning (M .ring) k t) ≡ tree-mass M t
-  mass-mass k leaf r h = mass-one k
-  mass-mass k (node x p m q n) r h =
+  pub mass-tree : (k : ℕ) (t : Tree E) → Reduced M k t → height t ≤ d → mass M d k (meaning (M .ring) k t) ≡ tree-mass M t
+  mass-tree k leaf r h = mass-one k
+  mass-tree k (node x p m q n) r h =
       let R = M .ring in
       let f = Poly R k .mul (constant R k p) (meaning R k m) in
       let g = Poly R k .mul (constant R k q) (meaning R k n) in
       mass-split k x (r .known) f g
       (down-const (S .laws) k x p (meaning R k m) ∙ (ap (Poly R k .mul (constant R k p)) (free (S .laws) k x m (reduced-ordered M k m (r .below)) (r .after)) ∙ mul-zero (poly-laws (S .laws) k) (constant R k p)))
       (short-const (S .laws) k x d q (meaning R k n) (short-tree (S .laws) k x d n (omega arith)))
-      ∙ cc (mass-const k p (meaning R k m), mass-const k q (meaning R k n), mass-mass k m (r .below) (omega arith), mass-mass k n (r .beside) (omega arith))
+      ∙ cc (mass-const k p (meaning R k m), mass-const k q (meaning R k n), mass-tree k m (r .below) (omega arith), mass-tree k n (r .beside) (omega arith))
 
 module _ {E : Type 0} (M : Model E) (S : Facts M) where
   pub mass-value : (d k : ℕ) (v : E) (t : Tree E) → Reduced M k t → height t ≤ d → mass M d k (value (M .ring) k v t) ≡ M .size v * tree-mass M t
-  mass-value d k v t r h = mass-const M S d k v (meaning (M .ring) k t) ∙ ap (λ z. M .size v * z) (mass-mass M S d k t r h)
+  mass-value d k v t r h = mass-const M S d k v (meaning (M .ring) k t) ∙ ap (λ z. M .size v * z) (mass-tree M S d k t r h)
 
   pub tree-mass-add : (k : ℕ) (v w z : E) (t s u : Tree E) → Reduced M k t → Reduced M k s → Reduced M k u → value (M .ring) k v t ≡ Poly (M .ring) k .add (value (M .ring) k w s) (value (M .ring) k z u) → M .size v * tree-mass M t ≤ M .size w * tree-mass M s + M .size z * tree-mass M u
   tree-mass-add k v w z t s u rt rs ru e =
