@@ -1,0 +1,13 @@
+pub mod Complete
+pub mod Flows
+pub mod Followed
+pub mod Inverse
+pub mod Meanings
+pub mod Pinned
+pub mod Places
+pub mod Reading
+pub mod Shallow
+pub mod Sound
+pub mod Taped
+pub mod Uncapped
+pub mod WellFormed
