@@ -118,4 +118,4 @@ sound (power f k) e l all =
     products-sound (length (written e f) - 1) (written e f) (k - 1) (omega (arith, a .some)) a
 
 pub well-formed : Well-formed
-well-formed f text r = sound f [] (lettered r) none-formed .all
+well-formed f text r = let s = sound f [] (lettered r) none-formed in (s .some, s .all)

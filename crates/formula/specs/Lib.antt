@@ -1,9 +1,10 @@
--- What users trust: Limits, Signs, Formulas, Grammar, Records, Flow, Meaning, Answer, Theorems.
+-- What users trust: Limits, Signs, Formulas, Grammar, Records, Flow, Lines, Meaning, Answer, Theorems.
 pub mod Answer
 pub mod Flow
 pub mod Formulas
 pub mod Grammar
 pub mod Limits
+pub mod Lines
 pub mod Meaning
 pub mod Records
 pub mod Signs

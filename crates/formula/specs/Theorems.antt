@@ -22,9 +22,9 @@ Spelled-once = (f g : Formula) (text : List ℕ) → Spells f text → Spells g 
 abbrev pub Answered-once : Type 0
 Answered-once = (text buffer after after′ : List ℕ) (r r′ : Result ℕ Fault) → Answer text buffer after r → Answer text buffer after′ r′ → (r ≡ r′) × (after ≡ after′)
 
--- each record of a formula that is spelled may stand at its place
+-- a formula that is spelled has a record, and each of its records may stand at its place
 abbrev pub Well-formed : Type 0
-Well-formed = (f : Formula) (text : List ℕ) → Spells f text → (place : ℕ) (d : Record) → place < length (records f) → Formed place (getD (records f) place d)
+Well-formed = (f : Formula) (text : List ℕ) → Spells f text → (0 < length (records f)) × ((place : ℕ) (d : Record) → place < length (records f) → Formed place (getD (records f) place d))
 
 -- the flow of a formula that is spelled has the formula's meaning as its value, in the arithmetic R
 abbrev pub Flow-means : {E : Type 0} → Ring E → Type 0

@@ -2,6 +2,8 @@
 ghost use mathlib.Core.Path.{_≡_};
 ghost use Prim.Native.Nat.{ℕ};
 ghost use Rattle.formula.specs.Flow.{fields, field-bytes, fields-in, formed, encoded, decoded, Formed, Stands};
+ghost use Rattle.formula.specs.Lines.{line};
+ghost use Rattle.std.specs.declared.option.Option.the-variants.{Some};
 ghost use Rattle.std.specs.declared.result.Result.the-variants.{Ok};
 use crate::limits::RECORD_SIZE;
 use domain::fault::Fault;
@@ -117,6 +119,8 @@ impl Record {
 
 // As `letter a`, `constant 5` or `product 0 1`.
 pub impl fmt::Display for Record as RecordDisplay {
+    ghost shown = { λ r. Some (line r) };
+
     fn fmt<W: fmt::Write>(&self, f: &mut fmt::Formatter<W>) -> fmt::Result {
         match self {
             Record::Constant(n) => write!(f, "constant {n}"),

@@ -12,7 +12,7 @@ pub fn answered_once()
     ensures { λ _. ⌜ Answered-once ⌝ }
 {}
 
-// Each record of a formula that is spelled may stand at its place.
+// A formula that is spelled has a record, and each of its records may stand at its place.
 pub fn well_formed()
     ensures { λ _. ⌜ Well-formed ⌝ }
 {}
