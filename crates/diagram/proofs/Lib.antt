@@ -1,0 +1,15 @@
+pub mod Comparing
+pub mod CountingLaws
+pub mod FillingLaws
+pub mod Joining
+pub mod LawfulLaws
+pub mod Lettering
+pub mod Listing
+pub mod Marking
+pub mod Monomials
+pub mod Negating
+pub mod Numbering
+pub mod Ordering
+pub mod Refusing
+pub mod Walking
+pub mod Weighing

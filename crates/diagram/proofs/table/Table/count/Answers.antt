@@ -1,0 +1,5 @@
+use Rattle.diagram.proofs.table.Table.count.Needs as need
+
+pub returns : need.returns
+returns g c =
+    record { counted = c .count .ensures .counted; checked = c .count .ensures .checked; least = c .count .ensures .least (c .args .self .now .order .count) }

@@ -1,0 +1,14 @@
+pub mod Answering
+pub mod Checks
+pub mod Counting
+pub mod Filling
+pub mod Letters
+pub mod Listed
+pub mod Making
+pub mod Masses
+pub mod Monomials
+pub mod Nodes
+pub mod Orders
+pub mod Places
+pub mod Stores
+pub mod Tables

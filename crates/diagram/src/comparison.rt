@@ -1,0 +1,6 @@
+// The answer of a comparison.
+#[derive(Clone, Copy, PartialEq, Eq, Debug)]
+pub enum Comparison {
+    Equal,
+    Different,
+}
