@@ -72,9 +72,22 @@ def respelled(name, kinds):
     return out
 
 
+def imported():
+    """The names that a file takes from the library, whose spelling is right as it is."""
+    own = "|".join(sorted(os.listdir("crates")))
+    found = set()
+    for path in antt_files() + sorted(glob.glob("crates/*/src/*.rt")):
+        for line in open(path, encoding="utf-8"):
+            m = re.match(r"\s*(?:ghost )?use (?!Rattle\.(?:" + own + r")\.)[^{]*\{(.*)\}", line)
+            if m:
+                found |= {word.strip().split(" as ")[0] for word in m.group(1).split(",")}
+    return found
+
+
 def names():
     found, goals = declared()
-    return {n: respelled(n, found) for n in found if "-" in n and n not in goals and not n.startswith(("returns-", "loop-"))}
+    left = goals | imported()
+    return {n: respelled(n, found) for n in found if "-" in n and n not in left and not n.startswith(("returns-", "loop-"))}
 
 
 def turned(text, table, mark):

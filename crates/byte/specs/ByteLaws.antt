@@ -40,12 +40,12 @@ byte_ring_laws : Laws byte_ring
 byte_ring_laws = record {
   add_assoc = wrap_assoc bit_xor (xor_lt 8) (λ a b c ha hb hc. xor_assoc a b c);
   add_comm = λ a b. ap wrap (xor_comm a.0 b.0);
-  add_zero = λ a. ap wrap (xor_zero_r a.0) ∙ wrap-byte a;
+  add-zero = λ a. ap wrap (xor_zero_r a.0) ∙ wrap-byte a;
   add_neg = λ a. ap wrap (xor_self a.0);
   mul_assoc = wrap_assoc times (λ a b ha hb. times-lt a b hb) times_assoc;
   mul_comm = λ a b. ap wrap (times_comm a.0 b.0 a.1 b.1);
-  mul_one = λ a. ap wrap (times-one a.0 a.1) ∙ wrap-byte a;
-  mul_add = wrap-add;
+  mul-one = λ a. ap wrap (times-one a.0 a.1) ∙ wrap-byte a;
+  mul-add = wrap-add;
 }
 
 -- the power 254 of a code other than zero is its inverse

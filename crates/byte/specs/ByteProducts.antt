@@ -1,7 +1,7 @@
 -- The product of bytes, on numbers. A byte acts on the bytes as a sum of shifts. A sum of shifts goes through the
 -- exclusive-or, so any two such sums commute: this gives the laws of the product.
 use Rattle.std.specs.Prelude.{◌≡◌, ℕ, zero, suc, ◌+◌, ◌-◌, ◌/◌, ◌%◌, ◌<◌, Bool, true, false, cond, ◌≢◌, ◌==◌, bit_xor, nat_eq, nat_lt, refl}
-use Rattle.std.proofs.Common.{sym, ◌∙◌, add-suc, add_zero, add-sub_of_le, le_of_lt, le_of_suc-le-suc, lit<}
+use Rattle.std.proofs.Common.{sym, ◌∙◌, add-suc, add-zero, add-sub_of_le, le_of_lt, le_of_suc-le-suc, lit<}
 use Rattle.std.proofs.Math.Path.{ap, ap₂}
 use Rattle.std.specs.Int.Bits.{xor_assoc, xor_self}
 use Rattle.std.proofs.lemmas.Nat.{xor_comm, xor_lt}
@@ -126,7 +126,7 @@ power-lt a (suc n) = times-lt a (power a n) (power-lt a n)
 
 power-add : (a m n : ℕ) → power a (m + n) ≡ times (power a m) (power a n)
 unfolding power
-power-add a m zero = ap (power a) (add_zero m) ∙ sym (times-one (power a m) (power-lt a m))
+power-add a m zero = ap (power a) (add-zero m) ∙ sym (times-one (power a m) (power-lt a m))
 power-add a m (suc n) = ap (power a) (add-suc m n) ∙ ap (times a) (power-add a m n) ∙ times_swap a (power a m) (power a n) (power-lt a n)
 
 three_to_255 : three_to 255 ≡ 1

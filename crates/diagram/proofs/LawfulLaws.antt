@@ -1,5 +1,5 @@
 -- The test of a reference.
-use Rattle.std.proofs.Common.{◌≡◌, ℕ, ◌*◌, ◌<◌, ◌≤◌, min, Bool, true, false, cond, eqb, leb, ◌≢◌, List, length, ℤ, pos, negsuc, Ok, Err, MatchBool, Result, sym, refl, ap, ◌∙◌, subst, zero-mul, arith, leb-false, leb_true}
+use Rattle.std.proofs.Common.{◌≡◌, ℕ, ◌*◌, ◌<◌, ◌≤◌, min, Bool, true, false, cond, eqb, leb, ◌≢◌, List, length, ℤ, pos, negsuc, Ok, Err, MatchBool, Result, sym, refl, ap, ◌∙◌, subst, zero-mul, arith, leb-false, leb-true}
 use mathlib.Core.Bool.{false≢true}
 use Rattle.std.proofs.lemmas.Bool.{eqb-true, eqb-false}
 use Rattle.domain.specs.Answers.{sized}
@@ -57,7 +57,7 @@ module _ {E : Type 0} (M : Model E) where
 
         go : (b : Bool) → leb r l ≡ b → MatchBool b (LightIn M es f) (LightIn M es f → ⊥)
         go true q =
-            let h = leb_true r l q in
+            let h = leb-true r l q in
             record { coded = coded; light = (capped_within (mass_of M es f) M.limit S.codes.most).0 (omega (arith, h, is, el)) }
         go false q = λ L. let h = leb-false r l q in let k = (capped_within (mass_of M es f) M.limit S.codes.most).1 L.light in omega (arith, h, is, el, k)
 

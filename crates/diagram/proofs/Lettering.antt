@@ -72,9 +72,9 @@ module _ {E : Type 0} (M : Model E) (S : Sound M) (k : ℕ) (es : List Entry) (K
       let a : value R k (M.value (number (pos 0))) leaf ≡ (Poly R k).zero =
       ap (λ z. (Poly R k).mul (constant R k z) (Poly R k).one) S.codes.zero.1 ∙ (ap (λ z. (Poly R k).mul z (Poly R k).one) (constant-zero R k) ∙ zero-mul L (Poly R k).one) in
       let b : value R k (M.value (number (pos 1))) leaf ≡ (Poly R k).one =
-      ap (λ z. (Poly R k).mul (constant R k z) (Poly R k).one) S.codes.one.1 ∙ (ap (λ z. (Poly R k).mul z (Poly R k).one) (constant-one M k) ∙ L.mul_one (Poly R k).one) in
+      ap (λ z. (Poly R k).mul (constant R k z) (Poly R k).one) S.codes.one.1 ∙ (ap (λ z. (Poly R k).mul z (Poly R k).one) (constant-one M k) ∙ L.mul-one (Poly R k).one) in
       (mk M S k es x nothing single joins).means
-      ∙ (ap₂ (λ y z. (Poly R k).add y ((Poly R k).mul P z)) a b ∙ (zero-add L ((Poly R k).mul P (Poly R k).one) ∙ L.mul_one P))
+      ∙ (ap₂ (λ y z. (Poly R k).add y ((Poly R k).mul P z)) a b ∙ (zero-add L ((Poly R k).mul P (Poly R k).one) ∙ L.mul-one P))
 
   reached : (s : Tree E) → InDiagram M k P s ↔ Inside s t
   reached s =

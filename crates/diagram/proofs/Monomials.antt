@@ -44,10 +44,10 @@ module _ {E : Type 0} {R : Ring E} (L : Laws R) where
 
 module _ {E : Type 0} (M : Model E) (S : Sound M) (k : ℕ) (w : E) (u : List ℕ) (l : length u ≡ k) where
   pub leaf_spent : Spent u → coefficient M.ring k (value M.ring k w leaf) u ≡ w
-  leaf_spent s = ap (λ f. coefficient M.ring k f u) ((poly_laws S.laws k).mul_one (constant M.ring k w)) ∙ constant_spent S.laws k w u l s
+  leaf_spent s = ap (λ f. coefficient M.ring k f u) ((poly_laws S.laws k).mul-one (constant M.ring k w)) ∙ constant_spent S.laws k w u l s
 
   pub leaf_unspent : (i : ℕ) → i < k → get_or u i 0 ≢ 0 → coefficient M.ring k (value M.ring k w leaf) u ≡ M.ring.zero
-  leaf_unspent i h s = ap (λ f. coefficient M.ring k f u) ((poly_laws S.laws k).mul_one (constant M.ring k w)) ∙ constant_unspent S.laws k w u i l h s
+  leaf_unspent i h s = ap (λ f. coefficient M.ring k f u) ((poly_laws S.laws k).mul-one (constant M.ring k w)) ∙ constant_unspent S.laws k w u i l h s
 
   module _ (x : ℕ) (p : E) (m : Tree E) (q : E) (n : Tree E) (r : Reduced M k (node x p m q n)) where
     pub node_used : (e : ℕ) → get_or u x 0 ≡ suc e → coefficient M.ring k (value M.ring k w (node x p m q n)) u ≡ coefficient M.ring k (value M.ring k (M.ring.mul w q) n) (set u x e)

@@ -25,7 +25,7 @@ module _ {E : Type 0} {R : Ring E} (L : Laws R) where
   neg-one_twice : R.mul (R.neg R.one) (R.neg R.one) ≡ R.one
   neg-one_twice =
       let m = R.neg R.one in
-      cancel L m (R.mul m m) R.one (cc (L.mul_one m, L.mul_add m R.one m, L.add_neg R.one, mul-zero L m, L.add_comm m R.one))
+      cancel L m (R.mul m m) R.one (cc (L.mul-one m, L.mul-add m R.one m, L.add_neg R.one, mul-zero L m, L.add_comm m R.one))
 
   pub neg-mul : (a b : E) → R.mul (R.neg a) b ≡ R.neg (R.mul a b)
   neg-mul a b = cc (neg_is a, L.mul_assoc (R.neg R.one) a b, neg_is (R.mul a b))
@@ -49,7 +49,7 @@ module _ {E : Type 0} (M : Model E) (S : Sound M) where
         | inr only ↦
             let R = M.ring in
             let one : M.size R.one ≡ 1 =
-            square_self (M.size R.one) (sym (S.sizes.product R.one R.one) ∙ ap M.size (S.laws.mul_one R.one)) (λ z. S.integral.apart (sym ((only R.one).0 z))) in
+            square_self (M.size R.one) (sym (S.sizes.product R.one R.one) ∙ ap M.size (S.laws.mul-one R.one)) (λ z. S.integral.apart (sym ((only R.one).0 z))) in
             let m : M.size (R.neg R.one) ≡ 1 =
             square_one (M.size (R.neg R.one)) (sym (S.sizes.product (R.neg R.one) (R.neg R.one)) ∙ (ap M.size (neg-one_twice S.laws) ∙ one)) in
             ap M.size (neg_is S.laws a) ∙ (S.sizes.product (R.neg R.one) a ∙ omega (arith, ap (λ z. z * M.size a) m))
@@ -62,11 +62,11 @@ module _ {E : Type 0} (M : Model E) (S : Sound M) where
         stands : (w : Number) → M.coded w ≡ true → StandsFor M k es (constant M.ring k (M.value w)) (record { weight = w; entry = 0 })
         stands w c =
             let s : M.size (M.value w) * M.size M.ring.one ≡ M.size (M.value w) =
-            sym (S.sizes.product (M.value w) M.ring.one) ∙ ap M.size (S.laws.mul_one (M.value w)) in
+            sym (S.sizes.product (M.value w) M.ring.one) ∙ ap M.size (S.laws.mul-one (M.value w)) in
             let h = S.codes.small w c in
             record {
               lawful = record { coded = c; inside = omega arith; lawful = record { bare = λ _. refl; light = omega (arith, s, h) } };
-              is = (ring_laws M S k).mul_one (constant M.ring k (M.value w));
+              is = (ring_laws M S k).mul-one (constant M.ring k (M.value w));
             }
 
     value-neg : (w : E) (t : Tree E) → value M.ring k (M.ring.neg w) t ≡ (Poly M.ring k).neg (value M.ring k w t)
@@ -98,7 +98,7 @@ module _ {E : Type 0} (M : Model E) (S : Sound M) where
         }
       where
         zero_of : (w : E) → M.ring.neg w ≡ M.ring.zero → w ≡ M.ring.zero
-        zero_of w z = cc (S.laws.add_neg w, S.laws.add_zero w)
+        zero_of w z = cc (S.laws.add_neg w, S.laws.add-zero w)
 
   pub negated_ok : (w v : Number) → M.coded w ≡ true → ◌≡◌ {A = Result Number Fault} (Ok v) (negated M w) → v ≡ M.code (M.ring.neg (M.value w))
   negated_ok w v c e = cc (e, ap (λ (b : Bool). cond {A = Result Number Fault} b (Ok (M.code (M.ring.neg (M.value w)))) (Err (no_code w))) c)

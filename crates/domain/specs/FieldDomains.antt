@@ -41,7 +41,7 @@ module _ {E : Type 0} (F : Field E) (S : FieldLaws F) where
 
   -- y times (x divided by y) is x
   restored : (x y : E) → y ≢ F.ring.zero → F.ring.mul y (F.ring.mul x (inv y)) ≡ x
-  restored x y h = cc (mul_swap S.laws y x (inv y), undone y h, S.laws.mul_one x)
+  restored x y h = cc (mul_swap S.laws y x (inv y), undone y h, S.laws.mul-one x)
 
   -- a common multiplier leaves the quotient
   reduced : (k x y : E) → k ≢ F.ring.zero → y ≢ F.ring.zero → F.ring.mul (F.ring.mul k x) (inv (F.ring.mul k y)) ≡ F.ring.mul x (inv y)
@@ -82,7 +82,7 @@ module _ {E : Type 0} (F : Field E) (S : FieldLaws F) where
     p_coded = (S.has (F.ring.mul (F.value a) (F.value (F.inverse b)))).0;
     q_coded = codes.one.0;
     left = cc (quotient a b cb, restored (F.value a) (F.value b) h);
-    right = cc (codes.one.1, S.laws.mul_one (F.value b));
+    right = cc (codes.one.1, S.laws.mul-one (F.value b));
     some = h;
   }
 

@@ -5,13 +5,13 @@ use Rattle.domain.specs.Ring.{Ring, Laws}
 
 module _ {E : Type 0} {R : Ring E} (L : Laws R) where
   pub one-mul : (a : E) → R.mul R.one a ≡ a
-  one-mul a = L.mul_comm R.one a ∙ L.mul_one a
+  one-mul a = L.mul_comm R.one a ∙ L.mul-one a
 
   pub zero-add : (a : E) → R.add R.zero a ≡ a
-  zero-add a = L.add_comm R.zero a ∙ L.add_zero a
+  zero-add a = L.add_comm R.zero a ∙ L.add-zero a
 
   pub add-mul : (a b c : E) → R.mul (R.add a b) c ≡ R.add (R.mul a c) (R.mul b c)
-  add-mul a b c = cc (L.mul_comm (R.add a b) c, L.mul_add c a b, L.mul_comm c a, L.mul_comm c b)
+  add-mul a b c = cc (L.mul_comm (R.add a b) c, L.mul-add c a b, L.mul_comm c a, L.mul_comm c b)
 
   pub mul_swap : (a b c : E) → R.mul a (R.mul b c) ≡ R.mul b (R.mul a c)
   mul_swap a b c = cc (L.mul_assoc a b c, L.mul_comm a b, L.mul_assoc b a c)
@@ -26,4 +26,4 @@ module _ {E : Type 0} {R : Ring E} (L : Laws R) where
       strip x = cc (L.add_assoc (R.neg a) a x, L.add_comm (R.neg a) a, L.add_neg a, zero-add x)
 
   pub mul-zero : (a : E) → R.mul a R.zero ≡ R.zero
-  mul-zero a = cancel (R.mul a R.zero) (R.mul a R.zero) R.zero (cc (L.mul_add a R.zero R.zero, L.add_zero R.zero, L.add_zero (R.mul a R.zero)))
+  mul-zero a = cancel (R.mul a R.zero) (R.mul a R.zero) R.zero (cc (L.mul-add a R.zero R.zero, L.add-zero R.zero, L.add-zero (R.mul a R.zero)))

@@ -1,5 +1,5 @@
 -- The value of a formula's flow is the formula's meaning, in every arithmetic.
-use Rattle.std.proofs.Common.{◌≡◌, ℕ, zero, suc, ◌+◌, ◌-◌, ◌<◌, ◌≤◌, List, [], ◌∷◌, ◌++◌, length, get_or, sym, refl, ap, ◌∙◌, subst, add_zero, add-suc, suc-add, arith}
+use Rattle.std.proofs.Common.{◌≡◌, ℕ, zero, suc, ◌+◌, ◌-◌, ◌<◌, ◌≤◌, List, [], ◌∷◌, ◌++◌, length, get_or, sym, refl, ap, ◌∙◌, subst, add-zero, add-suc, suc-add, arith}
 use Rattle.std.proofs.lemmas.List.{length_push, get_or_append_left, get_or_push}
 use Rattle.domain.specs.Ring.{Ring}
 use Rattle.formula.specs.declared.record.Record.{Record}
@@ -53,7 +53,7 @@ module _ {E : Type 0} (R : Ring E) (number variable : ℕ → E) where
   values-push vs (y ∷ e) x = values-push (vs ++ record_value R number variable vs y ∷ []) e x
 
   values_length : (vs : List E) (e : List Record) → length (values R number variable vs e) ≡ length vs + length e
-  values_length vs [] = sym (add_zero (length vs))
+  values_length vs [] = sym (add-zero (length vs))
   values_length vs (y ∷ e) = values_length (vs ++ record_value R number variable vs y ∷ []) e ∙ (omega (arith, length_push vs (record_value R number variable vs y)))
 
   many : (e : List Record) → length (V e) ≡ length e
@@ -83,7 +83,7 @@ module _ {E : Type 0} (R : Ring E) (number variable : ℕ → E) where
 
   -- k more products, where record b is x and the last record is x to the power j + 1
   products_mean : (x : E) (b : ℕ) (e : List Record) (k j : ℕ) → b < length e → at e b ≡ x → at e (length e - 1) ≡ raised R x (suc j) → at (products b e k) (length (products b e k) - 1) ≡ raised R x (suc (j + k))
-  products_mean x b e zero j h base last = last ∙ ap (λ n. raised R x (suc n)) (sym (add_zero j))
+  products_mean x b e zero j h base last = last ∙ ap (λ n. raised R x (suc n)) (sym (add-zero j))
   products_mean x b e (suc k) j h base last =
       let y : Record = Product (length e - 1) b in
       let next : at (e ++ y ∷ []) (length (e ++ y ∷ []) - 1) ≡ raised R x (suc (suc j)) = push_last e y ∙ (λ i. R.mul (last i) (base i)) in

@@ -1,5 +1,5 @@
 -- One more record on the tape.
-use Rattle.std.proofs.Common.{◌≡◌, ℕ, zero, suc, ◌+◌, ◌-◌, ◌<◌, ◌≤◌, min, List, [], ◌∷◌, ◌++◌, length, take, set, sym, refl, ap, ◌∙◌, subst, append_assoc, append-nil, add_zero, add-suc, suc-add, add-one, arith, length-append, length-set, take_all}
+use Rattle.std.proofs.Common.{◌≡◌, ℕ, zero, suc, ◌+◌, ◌-◌, ◌<◌, ◌≤◌, min, List, [], ◌∷◌, ◌++◌, length, take, set, sym, refl, ap, ◌∙◌, subst, append_assoc, append-nil, add-zero, add-suc, suc-add, add-one, arith, length-append, length-set, take_all}
 use lib.Seq.{take-append-le}
 use Rattle.std.proofs.lemmas.List.{take_more_set}
 use Rattle.formula.specs.Limits.{max_records}
@@ -41,7 +41,7 @@ pub last_is : (t : Tape) (e : List Record) → Wrote t e → t.count - 1 ≡ cap
 last_is t e w = omega (arith, w.count_is)
 
 negations_more : (n m : ℕ) → negations n (suc m) ≡ negations n m ++ Negation (cap (n + m - 1)) ∷ []
-negations_more n zero = ap (λ k. Negation (cap (k - 1)) ∷ []) (sym (add_zero n))
+negations_more n zero = ap (λ k. Negation (cap (k - 1)) ∷ []) (sym (add-zero n))
 negations_more n (suc m) = ap (λ l. Negation (cap (n - 1)) ∷ l) (negations_more (n + 1) m ∙ ap (λ k. negations (n + 1) m ++ Negation (cap (k - 1)) ∷ []) (omega arith))
 
 negations-length : (n m : ℕ) → length (negations n m) ≡ m
@@ -49,7 +49,7 @@ negations-length n zero = refl
 negations-length n (suc m) = ap suc (negations-length (n + 1) m)
 
 powers_more : (b n k : ℕ) → powers b n (suc k) ≡ powers b n k ++ Product (cap (n + k - 1)) (cap b) ∷ []
-powers_more b n zero = ap (λ k. Product (cap (k - 1)) (cap b) ∷ []) (sym (add_zero n))
+powers_more b n zero = ap (λ k. Product (cap (k - 1)) (cap b) ∷ []) (sym (add-zero n))
 powers_more b n (suc m) = ap (λ l. Product (cap (n - 1)) (cap b) ∷ l) (powers_more b (n + 1) m ∙ ap (λ k. powers b (n + 1) m ++ Product (cap (k - 1)) (cap b) ∷ []) (omega arith))
 
 powers-length : (b n k : ℕ) → length (powers b n k) ≡ k

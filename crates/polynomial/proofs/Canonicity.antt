@@ -1,5 +1,5 @@
 -- A polynomial has one weight and one reduced tree.
-use Rattle.std.proofs.Common.{◌≡◌, ℕ, zero, ◌*◌, ◌≤◌, ◌≢◌, sym, refl, ap, ◌∙◌, subst, ap₂, inl, inr, le_trans, mul_assoc, mul-le-mul_left, mul_one, arith}
+use Rattle.std.proofs.Common.{◌≡◌, ℕ, zero, ◌*◌, ◌≤◌, ◌≢◌, sym, refl, ap, ◌∙◌, subst, ap₂, inl, inr, le_trans, mul_assoc, mul-le-mul_left, mul-one, arith}
 use native.Mathlib.Nat.{one-le-mul}
 use native.Mathlib.Decide.{dec_lt}
 use Rattle.domain.specs.Ring.{Ring, Laws}
@@ -29,7 +29,7 @@ module _ {E : Type 0} (M : Model E) (S : Facts M) where
   le-mass k p t r =
       elim S.sizes [
         | inl all ↦ let e : M.size p ≡ 0 = all p in omega arith
-        | inr only ↦ subst (λ s. s ≤ M.size p * tree_mass M t) (mul_one (M.size p)) (mul-le-mul_left (M.size p) (tree-mass-pos only k t r))
+        | inr only ↦ subst (λ s. s ≤ M.size p * tree_mass M t) (mul-one (M.size p)) (mul-le-mul_left (M.size p) (tree-mass-pos only k t r))
       ]
 
   module _ (k : ℕ) where
@@ -81,7 +81,7 @@ module _ {E : Type 0} (M : Model E) (S : Facts M) where
       refactored : factor M (M.ring.mul v p) (M.ring.mul v q) ≡ (v, p, q)
       refactored =
           S.factor_scale v p q r.coded_p r.coded_q r.leads mass (part_coded p m r.below below_lawful) (part_coded q n r.beside beside_lawful)
-          ∙ rw (r.factored, S.laws.mul_one v)
+          ∙ rw (r.factored, S.laws.mul-one v)
 
     abbrev Agrees : Tree E → Tree E → Type 0
     Agrees t u =
@@ -114,7 +114,7 @@ module _ {E : Type 0} (M : Model E) (S : Facts M) where
           ]
 
     pub canonical : Determined M k
-    canonical leaf leaf r s v w lv lw e = (constant_inj M.ring k v w (cc (PL.mul_one (constant M.ring k v), PL.mul_one (constant M.ring k w), e)), refl)
+    canonical leaf leaf r s v w lv lw e = (constant_inj M.ring k v w (cc (PL.mul-one (constant M.ring k v), PL.mul-one (constant M.ring k w), e)), refl)
     canonical leaf (node y p' m' q' n') r s v w lv lw e = absurd (differ y p' m' q' n' leaf s tt tt w v (mass y p' m' q' n' s w lw) (sym e))
     canonical (node x p m q n) leaf r s v w lv lw e = absurd (differ x p m q n leaf r tt tt v w (mass x p m q n r v lv) e)
     canonical (node x p m q n) (node y p' m' q' n') r s v w lv lw e =

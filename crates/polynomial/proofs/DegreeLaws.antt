@@ -75,7 +75,7 @@ module _ {E : Type 0} (M : Model E) (S : Sound M) (k : ℕ) where
           | inr r ↦
               let u = r.0 in
               absurd (r.3 (coefficient-add M.ring k f g u
-              ∙ cc (D.ends u r.1 (omega (arith, r.2)), G.ends u r.1 (omega (arith, r.2)), S.laws.add_zero M.ring.zero)))
+              ∙ cc (D.ends u r.1 (omega (arith, r.2)), G.ends u r.1 (omega (arith, r.2)), S.laws.add-zero M.ring.zero)))
         ]
         | inr l ↦ l
       ]

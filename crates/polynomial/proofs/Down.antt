@@ -11,7 +11,7 @@ use Rattle.polynomial.proofs.SeriesRing.{series_ext, embed-mul, shift-mul, poly_
 
 module _ {E : Type 0} {R : Ring E} (L : Laws R) where
   pub down-add : (k x : ℕ) (f g : Polynomial E k) → down R k x ((Poly R k).add f g) ≡ (Poly R k).add (down R k x f) (down R k x g)
-  down-add zero x f g = sym (L.add_zero R.zero)
+  down-add zero x f g = sym (L.add-zero R.zero)
   down-add (suc k) zero f g = refl
   down-add (suc k) (suc x) f g = fun_ext (λ e. down-add k x (f e) (g e))
 

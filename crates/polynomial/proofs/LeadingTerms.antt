@@ -52,7 +52,7 @@ module _ {E : Type 0} (R : Ring E) where
 
 module _ {E : Type 0} {R : Ring E} (L : Laws R) where
   both_zero : (x y : E) → x ≡ R.zero → y ≡ R.zero → R.add x y ≡ R.zero
-  both_zero x y p q = cc (L.add_zero R.zero)
+  both_zero x y p q = cc (L.add-zero R.zero)
 
   -- if every product of two parts whose powers add up to n is zero at u, so is the product's part at n
   product_none : (k : ℕ) (f g : Polynomial E (suc k)) (u : List ℕ) (n : ℕ) → ((a b : ℕ) → a + b ≡ n → coefficient R k ((Poly R k).mul (f a) (g b)) u ≡ R.zero)
@@ -70,7 +70,7 @@ module _ {E : Type 0} {R : Ring E} (L : Laws R) where
   product-single k f g u zero j (suc n) e h =
       let z : j ≡ suc n = omega arith in
       coefficient-add R k ((Poly R k).mul (f 0) (g (suc n))) (product (Poly R k) (λ a. f (suc a)) g n) u
-      ∙ cc (product_none k (λ a. f (suc a)) g u n (λ a b v. h (suc a) b (omega arith) (λ w. omega arith)), L.add_zero (coefficient R k ((Poly R k).mul (f 0) (g j)) u))
+      ∙ cc (product_none k (λ a. f (suc a)) g u n (λ a b v. h (suc a) b (omega arith) (λ w. omega arith)), L.add-zero (coefficient R k ((Poly R k).mul (f 0) (g j)) u))
   product-single k f g u (suc i) j zero e h = absurd (omega arith)
   product-single k f g u (suc i) j (suc n) e h =
       coefficient-add R k ((Poly R k).mul (f 0) (g (suc n))) (product (Poly R k) (λ a. f (suc a)) g n) u

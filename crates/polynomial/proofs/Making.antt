@@ -1,5 +1,5 @@
 -- The weight and the reduced tree of (a, m) + x (b, n).
-use Rattle.std.proofs.Common.{◌≡◌, ℕ, zero, ◌+◌, ◌*◌, ◌<◌, ◌≤◌, Bool, true, false, ◌≢◌, sym, refl, ap, ◌∙◌, subst, ap₂, inl, inr, true≢false, le_trans, mul-le-mul_right, mul_assoc, zero-mul as zero-mul-ℕ, mul_add, arith}
+use Rattle.std.proofs.Common.{◌≡◌, ℕ, zero, ◌+◌, ◌*◌, ◌<◌, ◌≤◌, Bool, true, false, ◌≢◌, sym, refl, ap, ◌∙◌, subst, ap₂, inl, inr, true≢false, le_trans, mul-le-mul_right, mul_assoc, zero-mul as zero-mul-ℕ, mul-add, arith}
 use Rattle.polynomial.specs.Elements.{is_zero, factor}
 use Rattle.polynomial.specs.Polynomials.{Poly, letter}
 use Rattle.polynomial.specs.Trees.{Tree, node, After, From, Reduced, tree_mass, Lawful, meaning, value, make}
@@ -31,7 +31,7 @@ module _ {E : Type 0} (M : Model E) (S : Facts M) where
       let R = M.ring in
       let L = S.laws in
       let z : R.add x (R.neg y) ≡ R.zero =
-      S.no_divisors c (R.add x (R.neg y)) (cc (L.mul_add c x (R.neg y), L.mul_add c y (R.neg y), L.add_neg y, mul-zero L c, e)) h in
+      S.no_divisors c (R.add x (R.neg y)) (cc (L.mul-add c x (R.neg y), L.mul-add c y (R.neg y), L.add_neg y, mul-zero L c, e)) h in
       cancel L (R.neg y) x y (cc (z, L.add_comm x (R.neg y), L.add_neg y, L.add_comm y (R.neg y)))
 
   module _ (k x : ℕ) (known : x < k) (a : E) (m : Tree E) (b : E) (n : Tree E) (rm : Reduced M k m) (rn : Reduced M k n) (after : After x m) (from : From x n) (lm : Lawful M a m) (ln : Lawful M b n) (fits : M.size a * tree_mass M m + M.size b * tree_mass M n ≤ M.limit) (h : b ≢ M.ring.zero) where
@@ -75,7 +75,7 @@ module _ {E : Type 0} (M : Model E) (S : Facts M) where
         let f : factor M a b ≡ (R.mul g (factor M p q).0, (factor M p q).1, (factor M p q).2) =
         ap₂ (factor M) (sym gp) (sym gq)
         ∙ S.factor_scale g p q coded_p coded_q q_nz g_nz (subst (λ z. M.size z ≤ M.limit) (sym gp) coded_a) (subst (λ z. M.size z ≤ M.limit) (sym gq) coded_b) in
-        let e0 : (factor M p q).0 ≡ R.one = mul_cancel g (factor M p q).0 R.one g_nz (sym (ap (λ t. t.0) f) ∙ sym (S.laws.mul_one g)) in
+        let e0 : (factor M p q).0 ≡ R.one = mul_cancel g (factor M p q).0 R.one g_nz (sym (ap (λ t. t.0) f) ∙ sym (S.laws.mul-one g)) in
         let e1 : (factor M p q).1 ≡ p = sym (ap (λ t. t.1) f) in
         let e2 : (factor M p q).2 ≡ q = sym (ap (λ t. t.2) f) in
         λ i. (e0 i, e1 i, e2 i)
@@ -97,7 +97,7 @@ module _ {E : Type 0} (M : Model E) (S : Facts M) where
     same_mass : M.size g * tree_mass M (node x p m q n) ≡ M.size a * tree_mass M m + M.size b * tree_mass M n
     same_mass =
         cc (
-          mul_add (M.size g) (M.size p * tree_mass M m) (M.size q * tree_mass M n),
+          mul-add (M.size g) (M.size p * tree_mass M m) (M.size q * tree_mass M n),
           mul_assoc (M.size g) (M.size p) (tree_mass M m),
           mul_assoc (M.size g) (M.size q) (tree_mass M n),
           S.size_mul g p,
@@ -138,6 +138,6 @@ module _ {E : Type 0} (M : Model E) (S : Facts M) where
             means =
                 let R = M.ring in
                 let L = poly_laws S.laws k in
-                cc (e, constant-zero R k, zero-mul L (meaning R k n), mul-zero L (letter R k x), L.add_zero (value R k a m));
+                cc (e, constant-zero R k, zero-mul L (meaning R k n), mul-zero L (letter R k x), L.add-zero (value R k a m));
           }
       go false t = node_made k x known a m b n rm rn after from lm ln fits (λ e. true≢false (sym (ap (is_zero M) e ∙ S.zero_is) ∙ t))

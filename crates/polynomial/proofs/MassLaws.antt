@@ -1,5 +1,5 @@
 -- The mass of a sum is at most the sum of the masses, and that of a product at most their product.
-use Rattle.std.proofs.Common.{◌≡◌, ℕ, zero, suc, ◌+◌, ◌*◌, ◌≤◌, sym, refl, ap, ◌∙◌, le_trans, le_refl, add-le-add, add-mul, mul-le-mul_left, mul_add, arith}
+use Rattle.std.proofs.Common.{◌≡◌, ℕ, zero, suc, ◌+◌, ◌*◌, ◌≤◌, sym, refl, ap, ◌∙◌, le_trans, le_refl, add-le-add, add-mul, mul-le-mul_left, mul-add, arith}
 use Rattle.domain.specs.Ring.{Ring}
 use Rattle.polynomial.specs.Masses.{total, mass}
 use Rattle.polynomial.specs.Polynomials.{Polynomial, product, Series, Poly}
@@ -20,7 +20,7 @@ total-add g h (suc d) = let i : total (λ e. g (suc e) + h (suc e)) d ≡ total 
 
 pub total-mul : (c : ℕ) (g : ℕ → ℕ) (d : ℕ) → total (λ e. c * g e) d ≡ c * total g d
 total-mul c g zero = refl
-total-mul c g (suc d) = ap (λ s. c * g 0 + s) (total-mul c (λ e. g (suc e)) d) ∙ sym (mul_add c (g 0) (total (λ e. g (suc e)) d))
+total-mul c g (suc d) = ap (λ s. c * g 0 + s) (total-mul c (λ e. g (suc e)) d) ∙ sym (mul-add c (g 0) (total (λ e. g (suc e)) d))
 
 pub total_more : (g : ℕ → ℕ) (d : ℕ) → total g d ≤ total g (suc d)
 total_more g zero = omega arith
@@ -41,7 +41,7 @@ module _ {E : Type 0} {R : Ring E} {N : E → ℕ} (norm : Norm R N) where
       let c' = total-mul (N (f 0)) (λ e. N (g (suc e))) d in
       let i : total (λ e. N (product R f' g e)) d ≤ Tf * total (λ e. N (g e)) d = total-product f' g d in
       let j : Tf * total (λ e. N (g e)) d ≤ Tf * (N (g 0) + Tg) = mul-le-mul_left Tf (total_more (λ e. N (g e)) d) in
-      omega (arith, add-mul (N (f 0)) Tf (N (g 0) + Tg), mul_add (N (f 0)) (N (g 0)) Tg)
+      omega (arith, add-mul (N (f 0)) Tf (N (g 0) + Tg), mul-add (N (f 0)) (N (g 0)) Tg)
 
   series_norm : (d : ℕ) → Norm (Series R) (λ f. total (λ e. N (f e)) d)
   series_norm d = record {

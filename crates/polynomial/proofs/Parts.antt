@@ -55,14 +55,14 @@ module _ {E : Type 0} (M : Model E) (S : Facts M) (k : ℕ) where
     -- the two parts are settled by f
     pub high_is : down R k x f ≡ h
     high_is =
-        ap (down R k x) C.means ∙ (down-add S.laws k x (P.mul (letter R k x) h) a ∙ (ap₂ P.add (down_same S.laws k x C.known h) (C.low x (omega arith)) ∙ PL.add_zero h))
+        ap (down R k x) C.means ∙ (down-add S.laws k x (P.mul (letter R k x) h) a ∙ (ap₂ P.add (down_same S.laws k x C.known h) (C.low x (omega arith)) ∙ PL.add-zero h))
 
     low_none : h ≡ P.zero → f ≡ a
     low_none e = cc (C.means, e, mul-zero PL (letter R k x), zero-add PL a)
 
     pub early : (y : ℕ) → y < x → down R k y f ≡ P.zero
     early y l =
-        ap (down R k y) C.means ∙ (down-add S.laws k y (P.mul (letter R k x) h) a ∙ (ap₂ P.add (down_other S.laws k y x l h ∙ (ap (P.mul (letter R k x)) (C.high y l) ∙ mul-zero PL (letter R k x))) (C.low y (omega arith)) ∙ PL.add_zero P.zero))
+        ap (down R k y) C.means ∙ (down-add S.laws k y (P.mul (letter R k x) h) a ∙ (ap₂ P.add (down_other S.laws k y x l h ∙ (ap (P.mul (letter R k x)) (C.high y l) ∙ mul-zero PL (letter R k x))) (C.low y (omega arith)) ∙ PL.add-zero P.zero))
 
     refs : (t : Tree E) → Reduced M k t → (w : E) → Lawful M w t → value R k w t ≡ f → Ref t a × Ref t h
     refs leaf r w l e =

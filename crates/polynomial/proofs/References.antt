@@ -1,5 +1,5 @@
 -- Every polynomial with a mass within the limit has a lawful reference.
-use Rattle.std.proofs.Common.{◌≡◌, ℕ, zero, suc, ◌+◌, ◌*◌, ◌<◌, ◌≤◌, sym, refl, ap, ◌∙◌, ap₂, mul_one, arith}
+use Rattle.std.proofs.Common.{◌≡◌, ℕ, zero, suc, ◌+◌, ◌*◌, ◌<◌, ◌≤◌, sym, refl, ap, ◌∙◌, ap₂, mul-one, arith}
 use Rattle.domain.specs.Ring.{Ring, Laws}
 use Rattle.polynomial.proofs.Shapes.{Found}
 use Rattle.polynomial.specs.Masses.{total, mass, Bounded}
@@ -33,7 +33,7 @@ from_zero (node y p m q n) = omega arith
 
 module _ {E : Type 0} {R : Ring E} (L : Laws R) where
   embed-add : (a b : E) → (Series R).add (embed R a) (embed R b) ≡ embed R (R.add a b)
-  embed-add a b = series_ext _ _ refl (λ e. L.add_zero R.zero)
+  embed-add a b = series_ext _ _ refl (λ e. L.add-zero R.zero)
 
   embed-times : (a b : E) → (Series R).mul (embed R a) (embed R b) ≡ embed R (R.mul a b)
   embed-times a b = series_ext _ _ refl (λ e. embed-mul L a (embed R b) (suc e) ∙ mul-zero L a)
@@ -71,7 +71,7 @@ module _ {E : Type 0} (M : Model E) (S : Facts M) where
       cc (shift-meaning k m, shift-meaning k n, embed-times L cp fm, embed-times L cq fn, embed-times L (letter R k x) (P.mul cq fn), embed-add L (P.mul cp fm) (P.mul (letter R k x) (P.mul cq fn)))
 
   pub one_leaf : (f : E) → M.size f * M.size M.ring.one ≡ M.size f
-  one_leaf f = sym (S.size_mul f M.ring.one) ∙ ap M.size (S.laws.mul_one f)
+  one_leaf f = sym (S.size_mul f M.ring.one) ∙ ap M.size (S.laws.mul-one f)
 
   abbrev lift : (k : ℕ) (a : Polynomial E k) (s : ℕ) → Found M k a s → Found M (suc k) (embed (Poly M.ring k) a) s
   lift k a s r = record {
@@ -101,7 +101,7 @@ module _ {E : Type 0} (M : Model E) (S : Facts M) where
         let mk = made M S (suc k) 0 (omega arith) a.w a.t c.w c.t a.reduced c.reduced (shift-first low.t) (from_zero c.t) a.lawful c.lawful (omega (arith, a.weighs, c.weighs)) in
         let r = make M 0 a.w a.t c.w c.t in
         let joined : (Poly R (suc k)).add (embed P (f 0)) ((Poly R (suc k)).mul (letter R (suc k) 0) g) ≡ f =
-        series_ext _ _ (cc (zero-mul L (g 0), L.add_zero (f 0))) (λ e. cc (shift-mul L g e, zero-add L (f (suc e)))) in
+        series_ext _ _ (cc (zero-mul L (g 0), L.add-zero (f 0))) (λ e. cc (shift-mul L g e, zero-add L (f (suc e)))) in
         record {
           w = r.0;
           t = r.1;
@@ -117,7 +117,7 @@ module _ {E : Type 0} (M : Model E) (S : Facts M) where
       t = leaf;
       reduced = tt;
       lawful = record { bare = λ e. refl; light = omega (arith, one_leaf f) };
-      means = S.laws.mul_one f;
+      means = S.laws.mul-one f;
       weighs = one_leaf f;
     }
     found (suc k) f b l = climb k (found k) d f b.0 b.1 l

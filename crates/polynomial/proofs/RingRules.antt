@@ -16,7 +16,7 @@ module _ {E : Type 0} {R : Ring E} (L : Laws R) where
   pub add_comm : (a b : E) → R.add a b ≡ R.add b a
   add_comm = L.add_comm
 
-  pub mul_add : (a b c : E) → R.mul a (R.add b c) ≡ R.add (R.mul a b) (R.mul a c)
-  mul_add = L.mul_add
+  pub mul-add : (a b c : E) → R.mul a (R.add b c) ≡ R.add (R.mul a b) (R.mul a c)
+  mul-add = L.mul-add
 
-pub ruleset ringy = (mul_add, add-mul, add_assoc, mul_assoc, mul_comm, mul_swap, add_comm, add_swap)
+pub ruleset ringy = (mul-add, add-mul, add_assoc, mul_assoc, mul_comm, mul_swap, add_comm, add_swap)

@@ -44,9 +44,9 @@ stands_for =
     let two = constant-mul integer_laws 2 (pos 2) (pos 2) in
     let three = constant-mul integer_laws 2 (pos 2) (pos 3) in
     cc (
-      L.mul_add (c (pos 2)) (P.mul (c (pos 2)) P.one) (P.mul a (P.mul (c (pos 3)) P.one)),
-      L.mul_one (c (pos 2)),
-      L.mul_one (c (pos 3)),
+      L.mul-add (c (pos 2)) (P.mul (c (pos 2)) P.one) (P.mul a (P.mul (c (pos 3)) P.one)),
+      L.mul-one (c (pos 2)),
+      L.mul-one (c (pos 3)),
       mul_swap L (c (pos 2)) a (c (pos 3)),
       two,
       three,
@@ -82,7 +82,7 @@ leads =
     record {
       splits = record {
         known = omega arith;
-        means = sym (L.add_zero (P.mul a P.one) ∙ L.mul_one a);
+        means = sym (L.add-zero (P.mul a P.one) ∙ L.mul-one a);
         low = λ y h. down-zero integer_laws 2 y;
         high = λ y h. absurd (omega arith);
       };

@@ -24,10 +24,10 @@ module _ {E : Type 0} {R : Ring E} (L : Laws R) where
       cc (product_end g f n, product_comm (λ i. f (suc i)) g n, L.mul_comm (f 0) (g (suc n)), L.add_comm (R.mul (f 0) (g (suc n))) (product R g (λ i. f (suc i)) n))
 
   product-add : (f g h : ℕ → E) (n : ℕ) → product R f (λ i. R.add (g i) (h i)) n ≡ R.add (product R f g n) (product R f h n)
-  product-add f g h zero = L.mul_add (f 0) (g 0) (h 0)
+  product-add f g h zero = L.mul-add (f 0) (g 0) (h 0)
   product-add f g h (suc n) =
       cc (
-        L.mul_add (f 0) (g (suc n)) (h (suc n)),
+        L.mul-add (f 0) (g (suc n)) (h (suc n)),
         product-add (λ i. f (suc i)) g h n,
         interchange L (R.mul (f 0) (g (suc n))) (R.mul (f 0) (h (suc n))) (product R (λ i. f (suc i)) g n) (product R (λ i. f (suc i)) h n),
       )
@@ -39,7 +39,7 @@ module _ {E : Type 0} {R : Ring E} (L : Laws R) where
   scale_product : (c : E) (f g : ℕ → E) (n : ℕ) → product R (λ i. R.mul c (f i)) g n ≡ R.mul c (product R f g n)
   scale_product c f g zero = L.mul_assoc c (f 0) (g 0)
   scale_product c f g (suc n) =
-      cc (L.mul_assoc c (f 0) (g (suc n)), scale_product c (λ i. f (suc i)) g n, L.mul_add c (R.mul (f 0) (g (suc n))) (product R (λ i. f (suc i)) g n))
+      cc (L.mul_assoc c (f 0) (g (suc n)), scale_product c (λ i. f (suc i)) g n, L.mul-add c (R.mul (f 0) (g (suc n))) (product R (λ i. f (suc i)) g n))
 
   product_assoc : (f g h : ℕ → E) (n : ℕ) → product R (product R f g) h n ≡ product R f (product R g h) n
   product_assoc f g h zero = L.mul_assoc (f 0) (g 0) (h 0)
@@ -49,12 +49,12 @@ module _ {E : Type 0} {R : Ring E} (L : Laws R) where
         scale_product (f 0) (λ i. g (suc i)) h n,
         product_assoc (λ i. f (suc i)) g h n,
         L.mul_assoc (f 0) (g 0) (h (suc n)),
-        L.mul_add (f 0) (R.mul (g 0) (h (suc n))) (product R (λ i. g (suc i)) h n),
+        L.mul-add (f 0) (R.mul (g 0) (h (suc n))) (product R (λ i. g (suc i)) h n),
         L.add_assoc (R.mul (f 0) (R.mul (g 0) (h (suc n)))) (R.mul (f 0) (product R (λ i. g (suc i)) h n)) (product R (λ i. f (suc i)) (product R g h) n),
       )
 
   product-one : (f : ℕ → E) (n : ℕ) → product R f (Series R).one n ≡ f n
-  product-one f zero = L.mul_one (f 0)
+  product-one f zero = L.mul-one (f 0)
   product-one f (suc n) =
       cc (mul-zero L (f 0), product-one (λ i. f (suc i)) n, zero-add L (f (suc n)))
 
@@ -62,12 +62,12 @@ module _ {E : Type 0} {R : Ring E} (L : Laws R) where
   series_laws = record {
     add_assoc = λ f g h. fun_ext (λ n. L.add_assoc (f n) (g n) (h n));
     add_comm = λ f g. fun_ext (λ n. L.add_comm (f n) (g n));
-    add_zero = λ f. fun_ext (λ n. L.add_zero (f n));
+    add-zero = λ f. fun_ext (λ n. L.add-zero (f n));
     add_neg = λ f. fun_ext (λ n. L.add_neg (f n));
     mul_assoc = λ f g h. fun_ext (product_assoc f g h);
     mul_comm = λ f g. fun_ext (product_comm f g);
-    mul_one = λ f. fun_ext (product-one f);
-    mul_add = λ f g h. fun_ext (product-add f g h);
+    mul-one = λ f. fun_ext (product-one f);
+    mul-add = λ f g h. fun_ext (product-add f g h);
   }
 
   pub zero-product : (f : ℕ → E) (n : ℕ) → product R (λ i. R.zero) f n ≡ R.zero
@@ -77,7 +77,7 @@ module _ {E : Type 0} {R : Ring E} (L : Laws R) where
   -- a polynomial with no top letter multiplies each coefficient
   pub embed-mul : (a : E) (f : ℕ → E) (n : ℕ) → product R (embed R a) f n ≡ R.mul a (f n)
   embed-mul a f zero = refl
-  embed-mul a f (suc n) = cc (zero-product f n, L.add_zero (R.mul a (f (suc n))))
+  embed-mul a f (suc n) = cc (zero-product f n, L.add-zero (R.mul a (f (suc n))))
 
   -- the top letter moves each coefficient up by one
   pub shift-mul : (f : ℕ → E) (n : ℕ) → product R (cons R.zero (Series R).one) f (suc n) ≡ f n

@@ -106,7 +106,7 @@ module _ {E : Type 0} (M : Model E) (S : Facts M) (k : ℕ) where
         let R = M.ring in
         let A = (Poly R k).mul (constant R k p) (meaning R k m) in
         let B = (Poly R k).mul (constant R k q) (meaning R k n) in
-        cc (coefficient-add R k A ((Poly R k).mul (letter R k x) B) u, coefficient_scale S.laws k p (meaning R k m) u, coefficient_free S.laws k x B u h, S.laws.add_zero (R.mul p (coefficient R k (meaning R k m) u)))
+        cc (coefficient-add R k A ((Poly R k).mul (letter R k x) B) u, coefficient_scale S.laws k p (meaning R k m) u, coefficient_free S.laws k x B u h, S.laws.add-zero (R.mul p (coefficient R k (meaning R k m) u)))
 
     no_letter : (u : List ℕ) → coefficient M.ring k (meaning M.ring k m) u ≢ M.ring.zero → exponent x u ≡ 0
     no_letter u nz =

@@ -23,7 +23,7 @@ Short R (suc k) (suc x) d f = (e : ℕ) → Short R k x d (f e)
 module _ {E : Type 0} {R : Ring E} (L : Laws R) where
   short_add : (k x d : ℕ) (f g : Polynomial E k) → Short R k x d f → Short R k x d g → Short R k x d ((Poly R k).add f g)
   short_add zero x d f g s t = tt
-  short_add (suc k) zero d f g s t = cc (s, t, (poly_laws L k).add_zero (Poly R k).zero)
+  short_add (suc k) zero d f g s t = cc (s, t, (poly_laws L k).add-zero (Poly R k).zero)
   short_add (suc k) (suc x) d f g s t = λ e. short_add k x d (f e) (g e) (s e) (t e)
 
   short_zero : (k x d : ℕ) → Short R k x d (Poly R k).zero
@@ -112,7 +112,7 @@ module _ {E : Type 0} (M : Model E) (S : Facts M) (d : ℕ) where
       let R = M.ring in
       let PL = poly_laws S.laws k in
       total-shift (λ i. mass M d k (f i)) (λ i. mass M d k (g i)) (λ i. mass M d k ((Poly R (suc k)).add f ((Poly R (suc k)).mul (letter R (suc k) zero) g) i)) d
-      (ap (mass M d k) (cc (zero-mul PL (g 0), PL.add_zero (f 0))))
+      (ap (mass M d k) (cc (zero-mul PL (g 0), PL.add-zero (f 0))))
       (λ i. ap (mass M d k) (cc (shift-mul PL g i, ap (λ v. v i) e, zero-add PL (g i))))
       (λ i. ap (mass M d k) (ap (λ v. v i) e) ∙ mass-zero k)
       (ap (mass M d k) s ∙ mass-zero k)

@@ -113,7 +113,7 @@ module _ {E : Type 0} (M : Model E) (S : Facts M) (k : ℕ) where
   pub times-splits : (x : ℕ) → x < k → (h : Polynomial E k) → ((y : ℕ) → y < x → down R k y h ≡ P.zero) → Splits R k x (P.mul (letter R k x) h) P.zero h
   times-splits x l h e = record {
     known = l;
-    means = sym ((poly_laws S.laws k).add_zero (P.mul (letter R k x) h));
+    means = sym ((poly_laws S.laws k).add-zero (P.mul (letter R k x) h));
     low = λ y _. down-zero S.laws k y;
     high = e;
   }

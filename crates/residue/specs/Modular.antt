@@ -1,6 +1,6 @@
 -- Arithmetic modulo suc p: the ring laws, and powers.
 use Rattle.std.specs.Prelude.{◌≡◌, ℕ, zero, suc, ◌+◌, ◌-◌, ◌*◌, ◌/◌, ◌%◌, ◌^◌, ◌<◌, Bool, true, false, cond, T, ◌==◌, ◌≢◌, refl}
-use Rattle.std.proofs.Common.{sym, ap, subst, ◌∙◌, arith, mod-eq_of_lt, mul_assoc, mul_comm, mul_add, add-mul, add_assoc, add_comm, add_zero, mul_one, pow-suc, eq-eqb, eqb→eq}
+use Rattle.std.proofs.Common.{sym, ap, subst, ◌∙◌, arith, mod-eq_of_lt, mul_assoc, mul_comm, mul-add, add-mul, add_assoc, add_comm, add-zero, mul-one, pow-suc, eq-eqb, eqb→eq}
 use Rattle.std.proofs.lemmas.Bool.{false≢true}
 use native.Mathlib.Fin
 use Rattle.std.proofs.Math.Nat.{mod-add-mod, add-mod-mod, mod_self, mod-add-div, add-mul-mod_self_left, zero-mod, pow-zero}
@@ -26,12 +26,12 @@ module _ (p : ℕ) where
   modulo_laws = record {
     add_assoc = λ a b c. Fin.val_path (mod-add-mod (a.0 + b.0) (suc p) c.0 ∙ (ap (λ (z : ℕ). z % suc p) (add_assoc a.0 b.0 c.0) ∙ sym (add-mod-mod a.0 (b.0 + c.0) (suc p))));
     add_comm = λ a b. Fin.val_path (ap (λ (z : ℕ). z % suc p) (add_comm a.0 b.0));
-    add_zero = λ a. Fin.val_path (add-mod-mod a.0 0 (suc p) ∙ (ap (λ (z : ℕ). z % suc p) (add_zero a.0) ∙ mod-eq_of_lt a.1));
+    add-zero = λ a. Fin.val_path (add-mod-mod a.0 0 (suc p) ∙ (ap (λ (z : ℕ). z % suc p) (add-zero a.0) ∙ mod-eq_of_lt a.1));
     add_neg = λ a. Fin.val_path (add-mod-mod a.0 (suc p - a.0) (suc p) ∙ (ap (λ (z : ℕ). z % suc p) (full a.0 a.1) ∙ (mod_self (suc p) ∙ sym (zero-mod (suc p)))));
     mul_assoc = λ a b c. Fin.val_path (mod_mul (a.0 * b.0) c.0 ∙ (ap (λ (z : ℕ). z % suc p) (mul_assoc a.0 b.0 c.0) ∙ sym (mul_mod a.0 (b.0 * c.0))));
     mul_comm = λ a b. Fin.val_path (ap (λ (z : ℕ). z % suc p) (mul_comm a.0 b.0));
-    mul_one = λ a. Fin.val_path (mul_mod a.0 1 ∙ (ap (λ (z : ℕ). z % suc p) (mul_one a.0) ∙ mod-eq_of_lt a.1));
-    mul_add = λ a b c. Fin.val_path (mul_mod a.0 (b.0 + c.0) ∙ (ap (λ (z : ℕ). z % suc p) (mul_add a.0 b.0 c.0)
+    mul-one = λ a. Fin.val_path (mul_mod a.0 1 ∙ (ap (λ (z : ℕ). z % suc p) (mul-one a.0) ∙ mod-eq_of_lt a.1));
+    mul-add = λ a b c. Fin.val_path (mul_mod a.0 (b.0 + c.0) ∙ (ap (λ (z : ℕ). z % suc p) (mul-add a.0 b.0 c.0)
         ∙ sym (mod-add-mod (a.0 * b.0) (suc p) (a.0 * c.0 % suc p) ∙ add-mod-mod (a.0 * b.0) (a.0 * c.0) (suc p))));
   }
 

@@ -1,5 +1,5 @@
 -- Integers in 32 bits: what was accepted, and what an exact result that may not fit is answered.
-use Rattle.std.proofs.Common.{◌≡◌, ℕ, ◌≤◌, Bool, true, false, cond, leb, ℤ, pos, negsuc, nat_abs, Some, None, Ok, Err, Option, Result, sym, refl, ap, ◌∙◌, ap₂, arith, to_z-of_z, w32, SFits, to_z, of_z, leb_true}
+use Rattle.std.proofs.Common.{◌≡◌, ℕ, ◌≤◌, Bool, true, false, cond, leb, ℤ, pos, negsuc, nat_abs, Some, None, Ok, Err, Option, Result, sym, refl, ap, ◌∙◌, ap₂, arith, to_z-of_z, w32, SFits, to_z, of_z, leb-true}
 use Rattle.domain.specs.declared.fault.Fault.{Fault}
 use Rattle.domain.specs.declared.fault.Fault.TheVariants.{OverLimit}
 use Rattle.domain.specs.declared.number.Number.{Number}
@@ -23,13 +23,13 @@ accepted a x e = go (integers.coded a) refl e
 pub accepted_small : (a x : Number) → Ok x ≡ given integers a (Ok a) → nat_abs x.int ≤ 2147483647
 accepted_small a x e =
     let t = accepted a x e in
-    leb_true (nat_abs x.int) 2147483647 (ap (λ (y : Number). leb (nat_abs y.int) 2147483647) t.1 ∙ t.0)
+    leb-true (nat_abs x.int) 2147483647 (ap (λ (y : Number). leb (nat_abs y.int) 2147483647) t.1 ∙ t.0)
 
 fitted_is : (o : Option ℤ) (z : ℤ) → SomeIff o (SFits w32 z) z → fitted o ≡ encoded integers z
 fitted_is None z h = go (leb (nat_abs z) 2147483647) refl
   where
     go : (t : Bool) → leb (nat_abs z) 2147483647 ≡ t → fitted None ≡ cond t (Ok (integers.code z)) (Err (OverLimit 2147483647))
-    go true e = absurd (h (small_fits z (leb_true (nat_abs z) 2147483647 e)))
+    go true e = absurd (h (small_fits z (leb-true (nat_abs z) 2147483647 e)))
     go false e = refl
 fitted_is (Some x) z h = ap (encoded integers) h.1
 

@@ -1,6 +1,6 @@
 -- The integers keep the laws of a domain.
 use Rattle.std.specs.Prelude.{◌≡◌, ℕ, zero, suc, ◌*◌, ◌/◌, ◌<◌, ◌≤◌, Bool, true, false, ◌≢◌, ◌⊎◌, ℤ, pos, negsuc, ◌*ℤ◌, neg_ℤ, int_div, unsigned_abs, refl}
-use Rattle.std.proofs.Common.{sym, ap, ap₂, subst, ◌∙◌, inl, inr, arith, mul-pos, mul-le-mul_right, leb_true}
+use Rattle.std.proofs.Common.{sym, ap, ap₂, subst, ◌∙◌, inl, inr, arith, mul-pos, mul-le-mul_right, leb-true}
 use Rattle.std.specs.Int.{◌∣◌}
 use Rattle.std.proofs.Math.Nat.{mul-div_cancel'}
 use Rattle.std.proofs.Math.IntN.{neg_ℤ-neg_ℤ}
@@ -73,8 +73,8 @@ codes : Codes integers
 codes = record {
   least = omega arith;
   most = omega arith;
-  narrow = λ a c. leb_true (unsigned_abs a.int) 2147483647 c;
-  small = λ a c. leb_true (unsigned_abs a.int) 2147483647 c;
+  narrow = λ a c. leb-true (unsigned_abs a.int) 2147483647 c;
+  small = λ a c. leb-true (unsigned_abs a.int) 2147483647 c;
   only = λ a c. refl;
   has = λ z h. (le-leb (unsigned_abs z) 2147483647 h, refl);
   zero = (refl, refl);
@@ -92,8 +92,8 @@ coded_factor g p z e h l =
 module _ (a b : Number) (ca : integers.coded a ≡ true) (cb : integers.coded b ≡ true) (h : b.int ≢ pos 0) where
   factors : Factors integers a b
   factors =
-      let la = leb_true (unsigned_abs a.int) 2147483647 ca in
-      let lb = leb_true (unsigned_abs b.int) 2147483647 cb in
+      let la = leb-true (unsigned_abs a.int) 2147483647 ca in
+      let lb = leb-true (unsigned_abs b.int) 2147483647 cb in
       let g = common a.int b.int in
       let some = common-pos a.int b.int (abs-pos b.int h) in
       let few = gcd_small (unsigned_abs a.int) (unsigned_abs b.int) (abs-pos b.int h) in

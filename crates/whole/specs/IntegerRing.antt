@@ -47,12 +47,12 @@ unfolding one
 integer_laws = record {
   add_assoc = +ℤ_assoc;
   add_comm = +ℤ_comm;
-  add_zero = +ℤ_idr;
+  add-zero = +ℤ_idr;
   add_neg = +ℤ_invr;
   mul_assoc = mul_assoc;
   mul_comm = *ℤ_comm;
-  mul_one = *ℤ-one;
-  mul_add = λ a b c. cc (*ℤ_comm a (b +ℤ c), add-mul b c a, *ℤ_comm a b, *ℤ_comm a c);
+  mul-one = *ℤ-one;
+  mul-add = λ a b c. cc (*ℤ_comm a (b +ℤ c), add-mul b c a, *ℤ_comm a b, *ℤ_comm a c);
 }
 
 -- sizes
@@ -99,7 +99,7 @@ no_divisors a b e =
 
 pub cancel_mul : (c x y : ℤ) → c ≢ pos 0 → c *ℤ x ≡ c *ℤ y → x ≡ y
 cancel_mul c x y h e =
-    let z = no_divisors c (x +ℤ neg_ℤ y) (cc (integer_laws.mul_add c x (neg_ℤ y), integer_laws.mul_add c y (neg_ℤ y), +ℤ_invr y, *ℤ-zero c, e)) in
+    let z = no_divisors c (x +ℤ neg_ℤ y) (cc (integer_laws.mul-add c x (neg_ℤ y), integer_laws.mul-add c y (neg_ℤ y), +ℤ_invr y, *ℤ-zero c, e)) in
     elim z [
       | inl k ↦ absurd (h k)
       | inr k ↦ cancel integer_laws (neg_ℤ y) x y (cc (k, +ℤ_comm x (neg_ℤ y), +ℤ_invr y, +ℤ_comm y (neg_ℤ y)))
