@@ -1,4 +1,6 @@
 // The field of 256 bytes (FIPS 197, section 4.2), by tables of the powers of 3 and of their exponents.
+#![tactic(auto)]
+
 ghost use Rattle.std.specs.Prelude.{◌≡◌, ◌<◌, pos, ◌≢◌};
 ghost use Prim.Native.Nat.{Fin};
 ghost use Rattle.byte.specs.Bytes.{bytes, times, three_to, inverse_byte, Logarithm};

@@ -1,4 +1,6 @@
 // A calculator over the coefficient domains: one query a line, one answer a line.
+#![tactic(auto)]
+
 mod answering;
 mod asking;
 mod reading;

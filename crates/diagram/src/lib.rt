@@ -1,4 +1,6 @@
 // The unique table of two-edge nodes over any coefficient domain.
+#![tactic(auto)]
+
 pub mod coefficient;
 pub mod compare;
 pub mod comparison;

@@ -1,5 +1,5 @@
 -- Every field is a domain: the laws of a field give all laws of a domain.
-use Rattle.std.specs.Prelude.{◌≡◌, ℕ, suc, ◌≤◌, true, ◌≢◌, ◌⊎◌, ℤ, pos, negsuc, unsigned_abs, refl}
+use Rattle.std.specs.Prelude.{◌≡◌, ℕ, ◌≤◌, true, ◌≢◌, ◌⊎◌, ℤ, pos, negsuc, unsigned_abs, refl}
 use Rattle.std.proofs.Common.{sym, ◌∙◌, inl, inr, arith}
 use Rattle.std.proofs.Math.Path.{ap}
 use Rattle.std.proofs.Math.IntN.{ℤ_discrete, pos-ne-negsuc}
@@ -7,7 +7,6 @@ use Rattle.domain.specs.declared.number.Number.{Number}
 use Rattle.domain.specs.Fields.{Field, FieldLaws, domain_of}
 use Rattle.domain.specs.Model.{Codes, Factors, Scales, Sound}
 use Rattle.domain.specs.Numbers.{number}
-use Rattle.domain.specs.Ring.{Ring}
 use Rattle.domain.specs.Rings.{one-mul, mul-zero, mul_swap}
 
 module _ {E : Type 0} (F : Field E) (S : FieldLaws F) where

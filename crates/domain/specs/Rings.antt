@@ -1,6 +1,6 @@
 -- What follows from the laws of a commutative ring.
 use Rattle.std.specs.Prelude.{◌≡◌}
-use Rattle.std.proofs.Common.{sym, ap, ◌∙◌}
+use Rattle.std.proofs.Common.{◌∙◌}
 use Rattle.domain.specs.Ring.{Ring, Laws}
 
 module _ {E : Type 0} {R : Ring E} (L : Laws R) where

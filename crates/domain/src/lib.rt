@@ -1,4 +1,6 @@
 // Coefficient domains: what the coefficients of a polynomial are, and the interface of exact arithmetic on their codes.
+#![tactic(auto)]
+
 pub mod arithmetic;
 pub mod domain;
 pub mod fault;

@@ -1,4 +1,6 @@
 // Reads one formula from standard input and prints the records of its flow, or the refusal.
+#![tactic(auto)]
+
 use formula::limits::{MAX_RECORDS, RECORD_SIZE};
 use formula::text::read;
 use listing::{Refusal, record_at};

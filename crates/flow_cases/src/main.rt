@@ -2,6 +2,8 @@
 //
 // A line is `ROOM:TEXT`: the bytes of the buffer, at most 8,192, and the text. The answer is the number of records and,
 // of a short flow, the records, or the refusal with its place; and then how many bytes at the buffer's end are as they were.
+#![tactic(auto)]
+
 mod cases;
 
 use cases::print_case;

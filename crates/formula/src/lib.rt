@@ -1,4 +1,6 @@
 // Formula texts, the flows of records that they stand for, and the reader from one to the other.
+#![tactic(auto)]
+
 mod class;
 mod flow;
 pub mod limits;

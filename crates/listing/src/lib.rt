@@ -1,4 +1,6 @@
 // Records and refusals as programs print them.
+#![tactic(auto)]
+
 ghost use Rattle.std.specs.Prelude.{◌≡◌};
 ghost use Rattle.listing.specs.Listing.{taken};
 

@@ -1,5 +1,7 @@
 // Polynomials over a coefficient domain and their reduced diagrams. Each function's contract is a theorem, for every
 // domain and every number k of letters; the code does nothing.
+#![tactic(auto)]
+
 ghost use Rattle.std.specs.Prelude.{ℕ};
 ghost use Rattle.polynomial.specs.Examples.{Examples};
 ghost use Rattle.polynomial.specs.Theorems.{RingLaws, CoefficientLaws, MassLaws, DegreeLaws, Canonical, Existence, LeastEntries, Attained, DiagramLaws, WorkingLaws, GrowthLaws, Room, KnownEntries};

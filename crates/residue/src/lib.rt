@@ -1,4 +1,6 @@
 // The integers modulo the prime 8,191.
+#![tactic(auto)]
+
 ghost use Rattle.std.specs.Prelude.{◌≡◌, ◌%◌, ◌^◌, ◌<◌, pos};
 ghost use Prim.Native.Nat.{Fin};
 ghost use Rattle.domain.specs.Numbers.{number as numbered};

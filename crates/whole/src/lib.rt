@@ -1,4 +1,6 @@
 // The integers.
+#![tactic(auto)]
+
 ghost use Rattle.std.specs.Prelude.{◌≡◌, ◌^◌, ◌<◌, ◌≤◌, ℤ, Ok, int_div, unsigned_abs};
 ghost use Rattle.domain.specs.Answers.{given};
 ghost use Rattle.whole.specs.Divisors.{gcd as divisor, Greatest};
