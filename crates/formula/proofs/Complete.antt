@@ -1,19 +1,18 @@
 -- A formula that is spelled drives the machine.
-use Rattle.std.proofs.Common.{◌≡◌, ℕ, zero, suc, ◌+◌, ◌*◌, ◌^◌, ◌<◌, ◌≤◌, Bool, true, false, cond, ◌&&◌, ltb, leb, List, [], ◌∷◌, ◌++◌, length, Some, None, Option, sym, refl, ap, ◌∙◌, subst, arith}
+use Rattle.std.proofs.Common.{◌≡◌, ℕ, zero, suc, ◌+◌, ◌*◌, ◌^◌, ◌<◌, ◌≤◌, true, ◌&&◌, ltb, leb, List, [], ◌∷◌, length, Some, Option, refl, ap, ◌∙◌, arith}
 use Rattle.std.proofs.lemmas.Bool.Decides.{nat_tests}
 use Rattle.formula.specs.Signs.{sign_space, first_letter, first_digit}
 use Rattle.formula.specs.Limits.{max_open, max_exponent}
-use Rattle.formula.specs.declared.class.Class.{Class}
-use Rattle.formula.specs.declared.class.Class.TheVariants.{Space, Plus, Minus, Star, Caret, Open, Close, Letter, Digit, Other}
+use Rattle.formula.specs.declared.class.Class.TheVariants.{Minus, Caret, Letter, Digit}
 use Rattle.formula.specs.Classes.{classify}
 use Rattle.formula.specs.Formulas.{Formula}
 use Rattle.formula.specs.Grammar.{Number, Spaces, Reads, Part, Spells}
-use Rattle.formula.specs.Formulas.Formula.{constant, letter, sum, difference, product, negation, power}
+use Rattle.formula.specs.Formulas.Formula.{constant, letter, sum, difference, product, power}
 use Rattle.formula.specs.Grammar.Part.{formula, term, factor, atom}
 use Rattle.formula.specs.Grammar.Number.{digit, more}
 use Rattle.formula.specs.Grammar.Spaces.{none, space}
 use Rattle.formula.specs.Grammar.Reads.{a_letter, a_number, in_parentheses, an_atom, a_power, a_negation, a_factor, a_product, a_term, a_sum, a_difference, space_before, space_after}
-use Rattle.formula.specs.Machine.{Terms, Factors, Level, State, Config, negated, multiplied, added, term_with, terms_of, formula_with, empty, when, past_space, operand_of, move, step, start, walk, at_end, finish, sum_move, star_move, close_move}
+use Rattle.formula.specs.Machine.{Terms, Factors, Level, State, Config, negated, multiplied, formula_with, empty, when, past_space, operand_of, move, start, walk, at_end, finish, sum_move, star_move, close_move}
 use Rattle.formula.specs.Machine.Terms.{no_terms, plus, minus}
 use Rattle.formula.specs.Machine.Factors.{no_factors, times}
 use Rattle.formula.specs.Machine.Level.{level}

@@ -1,12 +1,11 @@
 -- What each turn of the reader keeps.
-use Rattle.std.proofs.Common.{◌≡◌, ℕ, zero, suc, ◌+◌, ◌-◌, ◌<◌, ◌≤◌, Bool, true, false, eqb, ltb, ◌≢◌, List, [], ◌∷◌, ◌++◌, length, get_or, set, Some, None, Option, sym, refl, ap, ◌∙◌, subst, append_assoc, append-nil, arith, length-append, length-set, get_or-set_other, get_or-set_same}
+use Rattle.std.proofs.Common.{◌≡◌, ℕ, zero, suc, ◌+◌, ◌-◌, ◌<◌, ◌≤◌, true, false, ltb, ◌≢◌, List, [], ◌∷◌, ◌++◌, length, get_or, set, Some, None, Option, sym, refl, ap, ◌∙◌, subst, append_assoc, append-nil, arith, length-append, length-set, get_or-set_other, get_or-set_same}
 use Rattle.std.proofs.lemmas.Bool.Decides.{nat_tests}
 use Rattle.formula.specs.Limits.{max_open}
 use Rattle.formula.specs.declared.record.Record.{Record}
-use Rattle.formula.specs.declared.record.Record.TheVariants.{Constant, Letter, Negation}
+use Rattle.formula.specs.declared.record.Record.TheVariants.{Negation}
 use Rattle.formula.specs.declared.state.State.{State as Code-state}
 use Rattle.formula.specs.declared.state.State.TheVariants.{Operand, Number, Atom, Caret, Exponent, Power}
-use Rattle.formula.specs.declared.state.Pending.{Pending}
 use Rattle.formula.specs.declared.state.Pending.TheVariants.{First, Plus, Minus}
 use Rattle.formula.specs.declared.state.Level.{Level as Code-level}
 use Rattle.formula.specs.declared.tape.Tape.{Tape}
@@ -14,8 +13,8 @@ use Rattle.formula.specs.declared.reader.Reader.{Reader}
 use Rattle.formula.specs.Tapes as T
 use Rattle.formula.specs.Tapes.{Wrote, Adds, cap, settled, termed, wholed, negations}
 use Rattle.formula.specs.Formulas.{Formula}
-use Rattle.formula.specs.Formulas.Formula.{constant, letter, sum, difference, product, negation, power}
-use Rattle.formula.specs.Machine.{Terms, Factors, Level, State, Config, operand_of, negated, multiplied, added, term_with, terms_of, formula_with, empty, sum_move, close_move, open_move, when, at_end}
+use Rattle.formula.specs.Formulas.Formula.{constant, negation, power}
+use Rattle.formula.specs.Machine.{Terms, Factors, Level, State, operand_of, negated, multiplied, added, term_with, terms_of, formula_with, empty, close_move, open_move, when, at_end}
 use Rattle.formula.specs.Machine.Terms.{no_terms, plus, minus}
 use Rattle.formula.specs.Machine.Factors.{no_factors, times}
 use Rattle.formula.specs.Machine.Level.{level}

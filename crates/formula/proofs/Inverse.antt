@@ -1,12 +1,10 @@
 -- Decoding undoes encoding, and the other way round.
-use Rattle.std.proofs.Common.{◌≡◌, ℕ, zero, suc, ◌+◌, ◌*◌, ◌/◌, ◌%◌, ◌^◌, ◌<◌, ◌≤◌, Bool, true, false, cond, ◌&&◌, eqb, ltb, List, [], ◌∷◌, ◌++◌, length, get_or, Ok, Err, Result, sym, refl, ap, ◌∙◌, subst, arith, lit<}
+use Rattle.std.proofs.Common.{◌≡◌, ℕ, ◌+◌, ◌*◌, ◌/◌, ◌%◌, ◌<◌, List, [], ◌∷◌, ◌++◌, length, get_or, Ok, refl, ap, ◌∙◌, arith, lit<}
 use Rattle.std.proofs.lemmas.Bool.Decides.{nat_tests}
-use Rattle.domain.specs.declared.fault.Fault.{Fault}
-use Rattle.domain.specs.declared.fault.Fault.TheVariants.{Malformed}
 use Rattle.formula.specs.declared.record.Fields.{Fields}
 use Rattle.formula.specs.declared.record.Record.{Record}
 use Rattle.formula.specs.declared.record.Record.TheVariants.{Constant, Letter, Sum, Difference, Product, Negation}
-use Rattle.formula.specs.Flow.{fields, field_bytes, encoded, decoded, two, four, fields_in, formed, Formed, Stands}
+use Rattle.formula.specs.Flow.{fields, field_bytes, two, four, fields_in, formed, Formed, Stands}
 
 pub formed_is : (place : ℕ) (f : Fields) (item : Record) → formed place f ≡ Ok item → Formed place item
 formed_is place f (Constant n) e = tt

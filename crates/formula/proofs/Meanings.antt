@@ -1,17 +1,17 @@
 -- The value of a formula's flow is the formula's meaning, in every arithmetic.
-use Rattle.std.proofs.Common.{◌≡◌, ℕ, zero, suc, ◌+◌, ◌-◌, ◌<◌, ◌≤◌, List, [], ◌∷◌, ◌++◌, length, get_or, sym, refl, ap, ◌∙◌, subst, add-zero, add-suc, suc-add, arith}
+use Rattle.std.proofs.Common.{◌≡◌, ℕ, zero, suc, ◌+◌, ◌-◌, ◌<◌, List, [], ◌∷◌, ◌++◌, length, get_or, sym, refl, ap, ◌∙◌, add-zero, add-suc, suc-add, arith}
 use Rattle.std.proofs.lemmas.List.{length_push, get_or_append_left, get_or_push}
 use Rattle.domain.specs.Ring.{Ring}
 use Rattle.formula.specs.declared.record.Record.{Record}
-use Rattle.formula.specs.declared.record.Record.TheVariants.{Constant, Letter, Sum, Difference, Product, Negation}
+use Rattle.formula.specs.declared.record.Record.TheVariants.{Product}
 use Rattle.formula.specs.Formulas.{Formula}
 use Rattle.formula.specs.Formulas.Formula.{constant, letter, sum, difference, product, negation, power}
-use Rattle.formula.specs.Grammar.{Part, Reads, Spells}
+use Rattle.formula.specs.Grammar.{Part, Reads}
 use Rattle.formula.specs.Grammar.Reads.{a_letter, a_number, in_parentheses, an_atom, a_power, a_negation, a_factor, a_product, a_term, a_sum, a_difference, space_before, space_after}
-use Rattle.formula.specs.Meaning.{raised, meaning, record_value, values, flow_value}
-use Rattle.formula.specs.Records.{products, written, records}
+use Rattle.formula.specs.Meaning.{raised, meaning, record_value, values}
+use Rattle.formula.specs.Records.{products, written}
 use Rattle.formula.specs.Theorems.{FlowMeans}
-use Rattle.formula.proofs.WellFormed.{longer, some_written, products_longer}
+use Rattle.formula.proofs.WellFormed.{longer, some_written}
 
 -- no exponent of the formula is 0
 abbrev Positive : Formula → Type 0

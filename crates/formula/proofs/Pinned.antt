@@ -1,12 +1,12 @@
 -- The reader's contract leaves one answer.
-use Rattle.std.proofs.Common.{◌≡◌, ℕ, suc, ◌+◌, ◌*◌, ◌<◌, ◌≤◌, ◌⊎◌, List, [], ◌∷◌, ◌++◌, length, take, drop, Ok, Err, Result, sym, refl, ap, ◌∙◌, subst, inl, inr, append_assoc, arith, take-append-drop}
+use Rattle.std.proofs.Common.{◌≡◌, ℕ, ◌+◌, ◌*◌, ◌<◌, ◌≤◌, List, ◌++◌, length, take, drop, Ok, Err, sym, refl, ap, ◌∙◌, subst, inl, inr, append_assoc, arith, take-append-drop}
 use Rattle.domain.specs.declared.fault.Fault.{Fault}
 use Rattle.domain.specs.declared.fault.Fault.TheVariants.{BadOrder, BadCapacity, UnknownLetter, NoCode, Unlawful, OverLimit, OverDegree, Full, BadLength, Malformed, NoFormula, NoRoom, BadExponents, BadInput, Memory}
-use Rattle.formula.specs.Answer.{Starts, Broken, Overflows, Written, Refused, Answer}
+use Rattle.formula.specs.Answer.{Starts, Broken, Overflows, Written, Refused}
 use Rattle.formula.specs.Flow.{flow_bytes}
 use Rattle.formula.specs.Formulas.{Formula}
 use Rattle.formula.specs.Grammar.{Spells}
-use Rattle.formula.specs.Limits.{max_text, max_records, record_size}
+use Rattle.formula.specs.Limits.{max_text, record_size}
 use Rattle.formula.specs.Records.{records}
 use Rattle.formula.specs.Theorems.{AnsweredOnce}
 use Rattle.formula.proofs.Places.{once}

@@ -1,5 +1,5 @@
 -- What the loop of `read` keeps, and what follows at its exits.
-use Rattle.std.proofs.Common.{◌≡◌, ℕ, zero, suc, ◌+◌, ◌*◌, ◌<◌, ◌≤◌, min, Bool, true, false, ◌⊎◌, List, [], ◌∷◌, ◌++◌, length, get_or, take, drop, Some, None, Option, sym, refl, ap, ◌∙◌, subst, inl, inr, append-nil, add-one, arith, take-append-drop, take_all}
+use Rattle.std.proofs.Common.{◌≡◌, ℕ, suc, ◌+◌, ◌*◌, ◌<◌, ◌≤◌, min, Bool, true, false, List, [], ◌∷◌, ◌++◌, length, get_or, take, drop, Some, None, Option, sym, refl, ap, ◌∙◌, subst, add-one, arith, take-append-drop, take_all}
 use Rattle.std.proofs.lemmas.List.{take_more}
 use Rattle.formula.specs.Limits.{max_records, record_size}
 use Rattle.formula.specs.Flow.{flow_bytes}
@@ -11,7 +11,7 @@ use Rattle.formula.specs.Formulas.{Formula}
 use Rattle.formula.specs.Grammar.{Spells}
 use Rattle.formula.specs.Records.{records}
 use Rattle.formula.proofs.Uncapped.{same_length, uncapped}
-use Rattle.formula.specs.Machine.{Level, State, Config, empty, move, step, start, walk, finish, at_end, operand_of}
+use Rattle.formula.specs.Machine.{Level, State, Config, empty, move, start, walk, finish, at_end, operand_of}
 use Rattle.formula.specs.Machine.State.{awaiting}
 use Rattle.formula.specs.Machine.Config.{config}
 use Rattle.formula.specs.Follow.{Follows, Stepped, Finished, put}
@@ -20,7 +20,7 @@ use Rattle.formula.specs.Answer.{Starts, Broken}
 use Rattle.formula.proofs.Places.{walk-++, starts, stops}
 use Rattle.formula.proofs.Complete.{complete}
 use Rattle.formula.proofs.Sound.{sound}
-use Rattle.formula.proofs.Shallow.{Shallow, ShallowIn, signs, shallow_move}
+use Rattle.formula.proofs.Shallow.{Shallow, ShallowIn, shallow_move}
 
 pub record Reading (text : List ℕ) (i : ℕ) (x : Reader) : Type 0 where
   pub st : State

@@ -1,10 +1,10 @@
 -- After i bytes no factor waits behind more than i signs.
-use Rattle.std.proofs.Common.{◌≡◌, ℕ, zero, suc, ◌≤◌, Bool, true, false, List, [], ◌∷◌, Some, None, Option, refl, arith}
+use Rattle.std.proofs.Common.{ℕ, zero, suc, ◌≤◌, Bool, true, false, List, [], ◌∷◌, Some, None, Option, arith}
 use Rattle.formula.specs.declared.class.Class.{Class}
 use Rattle.formula.specs.declared.class.Class.TheVariants.{Space, Plus, Minus, Star, Caret, Open, Close, Letter, Digit, Other}
 use Rattle.formula.specs.Formulas.{Formula}
-use Rattle.formula.specs.Machine.{Terms, Factors, Level, State, Config, empty, when, operand_of, sum_move, star_move, close_move, minus_move, open_move, caret_move, letter_move, digit_move, move}
-use Rattle.formula.specs.Machine.Terms.{plus, minus}
+use Rattle.formula.specs.Machine.{Terms, Level, State, Config, empty, when, operand_of, sum_move, star_move, close_move, minus_move, open_move, caret_move, letter_move, digit_move, move}
+use Rattle.formula.specs.Machine.Terms.{plus}
 use Rattle.formula.specs.Machine.Level.{level}
 use Rattle.formula.specs.Machine.State.{awaiting, in_number, past_atom, past_caret, in_exponent, past_power}
 use Rattle.formula.specs.Machine.Config.{config}

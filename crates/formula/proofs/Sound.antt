@@ -1,5 +1,5 @@
 -- What the machine reads is spelled: space-after each byte, the text so far is a formula as far as it goes.
-use Rattle.std.proofs.Common.{◌≡◌, ℕ, zero, suc, ◌+◌, ◌*◌, ◌^◌, ◌<◌, ◌≤◌, Bool, true, false, cond, ◌&&◌, ltb, leb, List, [], ◌∷◌, ◌++◌, length, Some, None, Option, sym, refl, ap, ◌∙◌, subst, arith}
+use Rattle.std.proofs.Common.{◌≡◌, ℕ, zero, suc, ◌+◌, ◌*◌, ◌^◌, ◌<◌, ◌≤◌, Bool, true, false, ◌&&◌, ltb, leb, List, [], ◌∷◌, length, Some, None, Option, refl, ap, ◌∙◌, subst, arith}
 use Rattle.std.proofs.lemmas.Bool.Decides.{nat_tests}
 use Rattle.formula.specs.Signs.{sign_space, sign_plus, sign_minus, sign_times, sign_caret, sign_open, sign_close, first_letter, first_digit}
 use Rattle.formula.specs.Limits.{max_open, max_exponent}
@@ -7,15 +7,13 @@ use Rattle.formula.specs.declared.class.Class.{Class}
 use Rattle.formula.specs.declared.class.Class.TheVariants.{Space, Plus, Minus, Star, Caret, Open, Close, Letter, Digit, Other}
 use Rattle.formula.specs.Classes.{classify}
 use Rattle.formula.specs.Formulas.{Formula}
-use Rattle.formula.specs.Grammar.{Number, Spaces, Reads, Part, Spells}
-use Rattle.formula.specs.Formulas.Formula.{constant, letter, sum, difference, product, negation, power}
+use Rattle.formula.specs.Grammar.{Number, Spaces, Reads, Spells}
+use Rattle.formula.specs.Formulas.Formula.{constant, power}
 use Rattle.formula.specs.Grammar.Part.{formula, term, factor, atom}
 use Rattle.formula.specs.Grammar.Number.{digit, more}
 use Rattle.formula.specs.Grammar.Spaces.{none, space}
-use Rattle.formula.proofs.Complete.{Holds, held, complete}
-use Rattle.formula.proofs.Complete.Holds.{h_digits, h_whole, h_index, h_ready}
 use Rattle.formula.specs.Grammar.Reads.{a_letter, a_number, in_parentheses, an_atom, a_power, a_negation, a_factor, a_product, a_term, a_sum, a_difference, space_before, space_after}
-use Rattle.formula.specs.Machine.{Terms, Factors, Level, State, Config, negated, multiplied, added, term_with, terms_of, formula_with, empty, when, past_space, operand_of, move, step, start, walk, at_end, finish, sum_move, star_move, close_move, minus_move, open_move, caret_move, letter_move, digit_move, once_negated}
+use Rattle.formula.specs.Machine.{Terms, Factors, Level, State, Config, added, term_with, terms_of, formula_with, when, past_space, operand_of, move, start, walk, at_end, finish, sum_move, star_move, close_move, minus_move, open_move, caret_move, letter_move, digit_move}
 use Rattle.formula.specs.Machine.Terms.{no_terms, plus, minus}
 use Rattle.formula.specs.Machine.Factors.{no_factors, times}
 use Rattle.formula.specs.Machine.Level.{level}

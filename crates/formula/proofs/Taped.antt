@@ -1,10 +1,10 @@
 -- One more record on the tape.
-use Rattle.std.proofs.Common.{◌≡◌, ℕ, zero, suc, ◌+◌, ◌-◌, ◌<◌, ◌≤◌, min, List, [], ◌∷◌, ◌++◌, length, take, set, sym, refl, ap, ◌∙◌, subst, append_assoc, append-nil, add-zero, add-suc, suc-add, add-one, arith, length-append, length-set, take_all}
+use Rattle.std.proofs.Common.{◌≡◌, ℕ, zero, suc, ◌+◌, ◌-◌, ◌<◌, ◌≤◌, min, List, [], ◌∷◌, ◌++◌, length, take, set, sym, refl, ap, ◌∙◌, append_assoc, add-zero, add-one, arith, length-append, length-set, take_all}
 use lib.Seq.{take-append-le}
 use Rattle.std.proofs.lemmas.List.{take_more_set}
 use Rattle.formula.specs.Limits.{max_records}
 use Rattle.formula.specs.declared.record.Record.{Record}
-use Rattle.formula.specs.declared.record.Record.TheVariants.{Constant, Letter, Sum, Difference, Product, Negation}
+use Rattle.formula.specs.declared.record.Record.TheVariants.{Product, Negation}
 use Rattle.formula.specs.declared.tape.Tape.{Tape}
 use Rattle.formula.specs.Tapes.{Wrote, cap, negations, powers}
 

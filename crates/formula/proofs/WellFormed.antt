@@ -1,5 +1,5 @@
 -- Each record of a formula that is spelled may stand at its place.
-use Rattle.std.proofs.Common.{◌≡◌, ℕ, zero, suc, ◌+◌, ◌-◌, ◌<◌, ◌≤◌, ◌⊎◌, List, [], ◌∷◌, ◌++◌, length, get_or, sym, refl, ap, ◌∙◌, subst, inl, inr, arith}
+use Rattle.std.proofs.Common.{◌≡◌, ℕ, zero, suc, ◌-◌, ◌<◌, ◌≤◌, List, [], ◌∷◌, ◌++◌, length, get_or, sym, refl, subst, inl, inr, arith}
 use Rattle.std.proofs.lemmas.List.{length_push, get_or_append_left, get_or_push}
 use Rattle.std.proofs.lemmas.Bool.{cases_lt}
 use Rattle.formula.specs.declared.record.Record.{Record}
@@ -7,9 +7,9 @@ use Rattle.formula.specs.declared.record.Record.TheVariants.{Constant, Letter, S
 use Rattle.formula.specs.Flow.{Formed}
 use Rattle.formula.specs.Formulas.{Formula}
 use Rattle.formula.specs.Formulas.Formula.{constant, letter, sum, difference, product, negation, power}
-use Rattle.formula.specs.Grammar.{Part, Reads, Spells}
+use Rattle.formula.specs.Grammar.{Part, Reads}
 use Rattle.formula.specs.Grammar.Reads.{a_letter, a_number, in_parentheses, an_atom, a_power, a_negation, a_factor, a_product, a_term, a_sum, a_difference, space_before, space_after}
-use Rattle.formula.specs.Records.{products, written, records}
+use Rattle.formula.specs.Records.{products, written}
 use Rattle.formula.specs.Theorems.{WellFormed}
 
 -- each letter of the formula is one of the sixteen

@@ -1,5 +1,5 @@
 -- How the reader follows the automaton.
-use Rattle.std.specs.Prelude.{◌≡◌, ℕ, zero, suc, ◌+◌, ◌-◌, ◌≤◌, Bool, true, false, List, [], ◌∷◌, ◌++◌, length, Some, None, Option, slice_index_or}
+use Rattle.std.specs.Prelude.{◌≡◌, ℕ, ◌-◌, ◌≤◌, Bool, true, false, List, [], ◌∷◌, ◌++◌, length, Some, None, Option, slice_index_or}
 use Rattle.formula.specs.Limits.{max_open}
 use Rattle.formula.specs.declared.record.Record.{Record}
 use Rattle.formula.specs.declared.record.Record.TheVariants.{Constant, Letter, Negation}
@@ -8,7 +8,6 @@ use Rattle.formula.specs.declared.state.State.TheVariants.{Operand, Number, Atom
 use Rattle.formula.specs.declared.state.Pending.{Pending}
 use Rattle.formula.specs.declared.state.Pending.TheVariants.{First, Plus, Minus}
 use Rattle.formula.specs.declared.state.Level.{Level as Code-level}
-use Rattle.formula.specs.declared.tape.Tape.{Tape}
 use Rattle.formula.specs.declared.class.Class.{Class}
 use Rattle.formula.specs.declared.reader.Reader.{Reader}
 use Rattle.formula.specs.Tapes.{Wrote, cap, settled, multiplied, added}

@@ -1,5 +1,5 @@
 -- The reader as a pure automaton, which holds formulas where the code holds record numbers.
-use Rattle.std.specs.Prelude.{ℕ, zero, suc, ◌+◌, ◌*◌, ◌^◌, ◌<◌, ◌≤◌, Bool, true, false, cond, ◌&&◌, List, [], ◌∷◌, ◌++◌, length, Some, None, Option, nat_le, nat_lt}
+use Rattle.std.specs.Prelude.{ℕ, zero, suc, ◌+◌, ◌*◌, ◌^◌, Bool, true, false, ◌&&◌, List, [], ◌∷◌, length, Some, None, Option, nat_le, nat_lt}
 use Rattle.formula.specs.Limits.{max_open, max_exponent}
 use Rattle.formula.specs.declared.class.Class.{Class}
 use Rattle.formula.specs.declared.class.Class.TheVariants.{Space, Plus, Minus, Star, Caret, Open, Close, Letter, Digit, Other}

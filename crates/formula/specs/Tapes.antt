@@ -2,7 +2,7 @@
 use Rattle.std.specs.Prelude.{◌≡◌, ℕ, zero, suc, ◌+◌, ◌-◌, min, List, [], ◌∷◌, ◌++◌, length, take, Some, None, Option}
 use Rattle.formula.specs.Limits.{max_records}
 use Rattle.formula.specs.declared.record.Record.{Record}
-use Rattle.formula.specs.declared.record.Record.TheVariants.{Constant, Letter, Sum, Difference, Product, Negation}
+use Rattle.formula.specs.declared.record.Record.TheVariants.{Constant, Sum, Difference, Product, Negation}
 use Rattle.formula.specs.declared.state.State.{State}
 use Rattle.formula.specs.declared.state.State.TheVariants.{Operand, Number, Atom, Caret, Exponent, Power}
 use Rattle.formula.specs.declared.state.Pending.{Pending}

@@ -20,5 +20,5 @@ pub fn well_formed()
 
 // The flow of a formula that is spelled has the formula's meaning as its value, in the arithmetic of each domain.
 pub fn flow_means<D: Domain>(domain: &D)
-    ensures { FlowMeans (model domain.now).ring }
+    ensures { FlowMeans (D.model domain.now).ring }
 {}

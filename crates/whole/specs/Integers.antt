@@ -32,7 +32,7 @@ split a b = (number (common a b), number (int_div a (common a b)), number (int_d
 abbrev pub integers : Model ℤ
 integers = record {
   ring = integer_ring;
-  size = nat_abs;
+  size = unsigned_abs;
   limit = 2147483647;
   coded = λ a. nat_le (unsigned_abs a.int) 2147483647;
   value = λ a. a.int;

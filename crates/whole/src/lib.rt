@@ -64,8 +64,8 @@ fn is_negative(a: Number) -> bool
 
 // The greatest common divisor, with the sign of b.
 fn common(a: Number, b: Number) -> Number
-    requires int_nonzero { 0 < unsigned_abs b.int }
-    requires int_bound { unsigned_abs b.int ≤ 2147483647 }
+    requires nonzero { 0 < unsigned_abs b.int }
+    requires in_range { unsigned_abs b.int ≤ 2147483647 }
     ensures { result ≡ numbered (shared a.int b.int) }
 {
     let d = gcd(a.int.unsigned_abs(), b.int.unsigned_abs());
@@ -74,8 +74,8 @@ fn common(a: Number, b: Number) -> Number
 
 // The quotient, rounded toward zero.
 fn quotient(a: Number, g: Number) -> Number
-    requires int_bound { unsigned_abs a.int ≤ 2147483647 }
-    requires int_nonzero { 0 < unsigned_abs g.int }
+    requires in_range { unsigned_abs a.int ≤ 2147483647 }
+    requires nonzero { 0 < unsigned_abs g.int }
     ensures { result ≡ numbered (int_div a.int g.int) }
 {
     Number { int: a.int / g.int }

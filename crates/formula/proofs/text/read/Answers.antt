@@ -1,7 +1,7 @@
-use Rattle.std.proofs.Common.{◌≡◌, ◌-◌, ◌*◌, ◌<◌, ◌≤◌, ◌⊎◌, length, drop, sym, refl, ap, ◌∙◌, inl, inr, arith}
+use Rattle.std.proofs.Common.{◌-◌, ◌*◌, ◌<◌, ◌⊎◌, length, sym, refl, inl, inr, arith}
 use Rattle.formula.specs.Limits.{max_records, record_size}
 use Rattle.formula.specs.Records.{records}
-use Rattle.formula.proofs.Reading.{Reading, goes_on, breaks, stepped, ended, unfinished, finished, long, copied, laid}
+use Rattle.formula.proofs.Reading.{goes_on, breaks, stepped, ended, unfinished, finished, long, copied, laid}
 use Rattle.formula.proofs.text.read.Goals as goal
 
 pub returns-then-not-step : goal.returns-then-not-step
@@ -25,8 +25,8 @@ returns-then-not-finish c =
     let r = c.loop-place.invariant in
     (refl, (omega arith, unfinished text i c.loop-place.reader c.finish.new.self r c.loop-place-test.false (ended text i c.loop-place.reader c.finish.new.self r _ _ c.if-not-finish.true c.finish.ensures)))
 
-pub returns-then-count-gt-MAX-RECORDS : goal.returns-then-count-gt-MAX-RECORDS
-returns-then-count-gt-MAX-RECORDS c =
+pub returns-then-count-gt-MAX_RECORDS : goal.returns-then-count-gt-MAX_RECORDS
+returns-then-count-gt-MAX_RECORDS c =
     let text = c.args.text.now in
     let i = c.loop-place.place in
     let r = c.loop-place.invariant in
@@ -34,7 +34,7 @@ returns-then-count-gt-MAX-RECORDS c =
     let got = finished text i c.loop-place.reader y r c.loop-place-test.false (ended text i c.loop-place.reader y r _ _ c.if-not-finish.false c.finish.ensures) in
     let n = long text y got in
     let way : (max_records < length (records got.formula)) ⊎ (length c.args.buffer.now < record_size * length (records got.formula)) =
-    elim c.then-count-gt-MAX-RECORDS.either [ inl h ↦ inl (omega (arith, h, n)) | inr h ↦ inr (omega (arith, h.0, h.1, n)) ] in
+    elim c.then-count-gt-MAX_RECORDS.either [ inl h ↦ inl (omega (arith, h, n)) | inr h ↦ inr (omega (arith, h.0, h.1, n)) ] in
     (refl, (refl, omega arith, (got.formula, record { spelled = got.spelled; over = way })))
 
 pub returns : goal.returns
@@ -53,7 +53,7 @@ returns c =
           count = sym out.0;
           fits = omega arith;
           room = omega arith;
-          bytes = laid y.tape.records (records got.formula) y.tape.count (y.tape.count - 0) _ c.args.buffer.now out.1 out.0 (omega arith) c.write-records.ensures;
+          bytes = laid y.tape.records (records got.formula) y.tape.count (y.tape.count - 0) _ c.args.buffer.now out.1 out.0 (omega arith) c.write_records.ensures;
         },
       ),
     )

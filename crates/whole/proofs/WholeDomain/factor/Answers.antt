@@ -12,8 +12,8 @@ some x y g h e = let P : Number → Type 0 = λ r. 0 < nat_abs r.int in subst P 
 
 pub quotient-requires : goal.quotient-requires
 quotient-requires c =
-    (accepted_small c.args.a c.in-ok-x.x c.in-ok-x.ensures, some c.in-ok-x.x c.in-ok-y.y c.common-g.result (search rules) c.common-g.ensures)
+    record { in_range = accepted_small c.args.a c.in_ok-x.x c.in_ok-x.ensures; nonzero = some c.in_ok-x.x c.in_ok-y.y c.common-g.result (search rules) c.common-g.ensures }
 
 pub quotient-requires-2 : goal.quotient-requires-2
 quotient-requires-2 c =
-    (accepted_small c.args.b c.in-ok-y.y c.in-ok-y.ensures, some c.in-ok-x.x c.in-ok-y.y c.common-g.result (search rules) c.common-g.ensures)
+    record { in_range = accepted_small c.args.b c.in_ok-y.y c.in_ok-y.ensures; nonzero = some c.in_ok-x.x c.in_ok-y.y c.common-g.result (search rules) c.common-g.ensures }

@@ -3,4 +3,4 @@ use Rattle.formula.proofs.Followed.{follow_close}
 use Rattle.formula.proofs.reader.Reader.close.Goals as goal
 
 pub returns : goal.returns
-returns c = λ st f l ls v w. follow_close st f l ls _ _ _ (omega arith) v w c.close-sum.ensures
+returns c = λ st f l ls v w. follow_close st f l ls _ _ _ (omega arith) v w c.close_sum.ensures

@@ -3,4 +3,4 @@ use Rattle.formula.proofs.Followed.{follow_plus}
 use Rattle.formula.proofs.reader.Reader.plus.Goals as goal
 
 pub returns : goal.returns
-returns c = λ st f l ls v w. (refl, follow_plus st f l ls _ _ _ v w c.close-sum.ensures c.last.ensures)
+returns c = λ st f l ls v w. (refl, follow_plus st f l ls _ _ _ v w c.close_sum.ensures c.last.ensures)

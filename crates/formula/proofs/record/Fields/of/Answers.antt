@@ -6,4 +6,4 @@ pub returns : goal.returns
 returns c =
     let size : length c.args.bytes ≡ 8 = omega arith in
     let small : (i : ℕ) → i < 8 → get_or c.args.bytes i 0 < 256 = λ i h. search rules in
-    record { value = search rules; undone = bytes_are c.args.bytes _ _ size small c.from-le-bytes.ensures c.from-le-bytes-2.ensures }
+    record { value = search rules; undone = bytes_are c.args.bytes _ _ size small c.from_le_bytes.ensures c.from_le_bytes-2.ensures }

@@ -1,4 +1,4 @@
-use Rattle.std.proofs.Common.{◌≡◌, [], ◌∷◌, ◌++◌, length, sym, refl, ap, ◌∙◌, subst, append-nil, arith}
+use Rattle.std.proofs.Common.{◌≡◌, [], ◌∷◌, ◌++◌, length, sym, ap, ◌∙◌, subst, append-nil, arith}
 use Rattle.formula.specs.declared.record.Record.TheVariants.{Negation}
 use Rattle.formula.specs.Tapes.{Wrote, negations}
 use Rattle.formula.proofs.Taped.{negations-next}

@@ -1,4 +1,4 @@
-use Rattle.std.proofs.Common.{◌≡◌, ◌-◌, ◌≤◌, ◌++◌, length}
+use Rattle.std.proofs.Common.{◌-◌, ◌++◌, length}
 use Rattle.formula.specs.Tapes.{Adds, powers}
 use Rattle.formula.proofs.tape.Tape.raise.Given as goal
 
