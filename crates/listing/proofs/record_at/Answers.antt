@@ -12,5 +12,5 @@ returns c =
     let test : ltb (length flow) (record_size * place + record_size) ≡ false = grind (arith, nat_tests) in
     let size : record_size * place + record_size - record_size * place ≡ record_size = omega arith in
     c.decode.ensures.value
-    ∙ ap (decoded place) (c.copy-from-slice.ensures.after ∙ ap (λ k. take k (drop (record_size * place) flow)) size)
+    ∙ ap (decoded place) (c.copy_from_slice.ensures.after ∙ ap (λ k. take k (drop (record_size * place) flow)) size)
     ∙ sym (ap (λ b. cond b (Err (BadLength (length flow))) (decoded place (take record_size (drop (record_size * place) flow)))) test)
