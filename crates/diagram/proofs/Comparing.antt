@@ -1,5 +1,5 @@
 -- Two references to one table.
-use Rattle.std.proofs.Common.{◌≡◌, ℕ, List, sym, refl, ap, ◌∙◌, subst}
+use Rattle.std.proofs.Common.{◌≡◌, ℕ, List}
 use Rattle.domain.specs.Model.{Model, Sound}
 use Rattle.polynomial.proofs.Theorems.{canonical}
 use Rattle.diagram.specs.Answering.{Agree}

@@ -1,5 +1,5 @@
 -- The entries that are reached are the diagram.
-use Rattle.std.proofs.Common.{◌≡◌, ℕ, zero, suc, ◌+◌, ◌<◌, ◌≤◌, ◌≢◌, ◌⊎◌, List, [], ◌∷◌, length, get_or, sym, refl, ap, ◌∙◌, subst, inl, inr, arith}
+use Rattle.std.proofs.Common.{◌≡◌, ℕ, zero, suc, ◌<◌, ◌≤◌, List, [], ◌∷◌, length, get_or, sym, refl, ap, ◌∙◌, subst, inl, inr, arith}
 use Rattle.domain.specs.Model.{Model, Sound}
 use Rattle.polynomial.specs.Diagrams.{Inside, Diagram}
 use Rattle.polynomial.specs.Entries.{stands, trees}

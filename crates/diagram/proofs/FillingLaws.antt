@@ -1,10 +1,9 @@
 -- Filling a table by hand.
-use Rattle.std.proofs.Common.{◌≡◌, ℕ, ◌<◌, ◌≤◌, true, List, [], ◌∷◌, ◌++◌, length, get_or, Ok, Err, Result, sym, refl, ap, ◌∙◌, subst, inl, inr, MatchResult}
+use Rattle.std.proofs.Common.{◌≡◌, ℕ, ◌<◌, true, List, length, Ok, Err, Result, sym, subst, inl, inr, MatchResult}
 use Rattle.domain.specs.Model.{Model}
 use Rattle.domain.specs.declared.fault.Fault.{Fault}
 use Rattle.domain.specs.declared.fault.Fault.TheVariants.{Full}
-use Rattle.diagram.specs.Checks.{Else, Never}
-use Rattle.diagram.specs.Filling.{Named, Fits, Misfit, Appended, Filled, BadFilling}
+use Rattle.diagram.specs.Filling.{Fits, Appended, Filled, BadFilling}
 use Rattle.diagram.specs.Places.{All}
 use Rattle.diagram.specs.Stores.{items}
 use Rattle.diagram.specs.Tables.{Coded}

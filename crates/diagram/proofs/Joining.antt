@@ -1,5 +1,5 @@
 -- An entry that is found, appended, or refused.
-use Rattle.std.proofs.Common.{◌≡◌, ℕ, zero, suc, ◌+◌, ◌*◌, ◌<◌, ◌≤◌, Bool, true, false, cond, ◌≢◌, ◌⊎◌, List, [], ◌∷◌, ◌++◌, length, get_or, IfErr, Ok, Err, Result, sym, refl, ap, ◌∙◌, subst, ap₂, inl, inr, append-nil, le_trans, mul-le-mul_right, zero-mul as zero-mul-ℕ, arith, length-append, MatchResult}
+use Rattle.std.proofs.Common.{◌≡◌, ℕ, suc, ◌*◌, ◌<◌, ◌≤◌, Bool, true, false, ◌≢◌, List, [], ◌∷◌, ◌++◌, length, get_or, IfErr, Ok, Err, Result, sym, ap, ◌∙◌, subst, ap₂, inl, inr, append-nil, mul-le-mul_right, zero-mul as zero-mul-ℕ, arith, length-append, MatchResult}
 use mathlib.Core.Bool.{false≢true}
 use native.Mathlib.Decide.{dec_lt}
 use lib.Seq.{get_or-append_seam}
@@ -10,10 +10,10 @@ use Rattle.domain.specs.declared.fault.Fault.TheVariants.{Full}
 use Rattle.domain.specs.declared.number.Number.{Number}
 use Rattle.polynomial.specs.Elements.{is_zero, factor}
 use Rattle.polynomial.specs.Entries.{Entry as Node, stands, trees, Edges}
-use Rattle.polynomial.specs.Growth.{Grown, Outcome}
+use Rattle.polynomial.specs.Growth.{Grown}
 use Rattle.polynomial.specs.Lists.{Among}
 use Rattle.polynomial.specs.Trees.{Tree, leaf, node, Reduced, tree_mass, Lawful, make}
-use Rattle.polynomial.proofs.Canonicity.{le-mass, size_pos}
+use Rattle.polynomial.proofs.Canonicity.{size_pos}
 use Rattle.polynomial.proofs.Capacity.{full_one}
 use Rattle.polynomial.proofs.ElementFacts.{facts, is_zero_code, factor_code, code_zero}
 use Rattle.polynomial.proofs.GrowthLaws.{grown_none, grown_same, overfull_more}
@@ -25,7 +25,7 @@ use Rattle.diagram.specs.Filling.{Appended}
 use Rattle.diagram.specs.Nodes.{Moved, Numbered, Interned, Joins, joint, Wanted, Joined, Denied}
 use Rattle.diagram.specs.Places.{All, Absent, Falls}
 use Rattle.diagram.specs.Stores.{items}
-use Rattle.diagram.specs.Tables.{node_of, nodes, tree, Coded, LawfulIn, Kept}
+use Rattle.diagram.specs.Tables.{node_of, nodes, tree, Coded, Kept}
 use Rattle.diagram.specs.declared.entry.Entry.{Entry}
 use Rattle.diagram.specs.declared.entry.Reference.{Reference}
 use Rattle.diagram.specs.declared.store.Store.{Store}

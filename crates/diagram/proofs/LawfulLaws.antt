@@ -1,5 +1,5 @@
 -- The test of a reference.
-use Rattle.std.proofs.Common.{◌≡◌, ℕ, ◌*◌, ◌<◌, ◌≤◌, min, Bool, true, false, cond, eqb, leb, ◌≢◌, List, length, ℤ, pos, negsuc, Ok, Err, MatchBool, Result, sym, refl, ap, ◌∙◌, subst, zero-mul, arith, leb-false, leb-true}
+use Rattle.std.proofs.Common.{◌≡◌, ℕ, ◌*◌, ◌≤◌, Bool, true, false, cond, eqb, leb, ◌≢◌, List, length, ℤ, pos, negsuc, Ok, Err, MatchBool, Result, sym, refl, ap, ◌∙◌, subst, zero-mul, arith, leb-false, leb-true}
 use mathlib.Core.Bool.{false≢true}
 use Rattle.std.proofs.lemmas.Bool.{eqb-true, eqb-false}
 use Rattle.domain.specs.Answers.{sized}
@@ -7,11 +7,11 @@ use Rattle.domain.specs.Model.{Model, Sound}
 use Rattle.domain.specs.Numbers.{number, is_zero as zero-code, no_code}
 use Rattle.domain.specs.declared.fault.Fault.{Fault}
 use Rattle.domain.specs.declared.number.Number.{Number}
-use Rattle.polynomial.specs.Trees.{leaf, tree_mass}
-use Rattle.polynomial.proofs.ElementFacts.{facts, size_zero, code_zero}
+use Rattle.polynomial.specs.Trees.{tree_mass}
+use Rattle.polynomial.proofs.ElementFacts.{size_zero, code_zero}
 use Rattle.diagram.specs.Masses.{capped}
-use Rattle.diagram.specs.Places.{All, Falls}
-use Rattle.diagram.specs.Tables.{tree, mass_of, Coded, LightIn, LawfulIn}
+use Rattle.diagram.specs.Places.{Falls}
+use Rattle.diagram.specs.Tables.{tree, mass_of, LightIn, LawfulIn}
 use Rattle.diagram.specs.declared.entry.Entry.{Entry}
 use Rattle.diagram.specs.declared.entry.Reference.{Reference}
 use Rattle.diagram.proofs.Numbering.{leaf_zero}

@@ -1,22 +1,22 @@
 -- A letter alone.
-use Rattle.std.proofs.Common.{◌≡◌, ℕ, zero, suc, ◌+◌, ◌*◌, ◌<◌, ◌≤◌, true, false, ◌⊎◌, ◌↔◌, List, ◌++◌, length, get_or, pos, IfErr, Ok, Err, Result, sym, refl, ap, ◌∙◌, subst, ap₂, inl, inr, zero-mul as zero-mul-ℕ, arith, MatchResult}
+use Rattle.std.proofs.Common.{◌≡◌, ℕ, zero, suc, ◌*◌, ◌<◌, ◌≤◌, ◌⊎◌, ◌↔◌, List, length, get_or, pos, IfErr, Ok, Err, Result, sym, refl, ap, ◌∙◌, subst, ap₂, inl, inr, zero-mul as zero-mul-ℕ, arith, MatchResult}
 use Rattle.domain.specs.Model.{Model, Sound}
 use Rattle.domain.specs.Numbers.{number}
 use Rattle.domain.specs.declared.fault.Fault.{Fault}
 use Rattle.domain.specs.declared.fault.Fault.TheVariants.{Full}
 use Rattle.polynomial.specs.Diagrams.{Inside, InDiagram}
 use Rattle.polynomial.specs.Polynomials.{Polynomial, Poly, cons, constant, letter}
-use Rattle.polynomial.specs.Trees.{Tree, leaf, node, tree_mass, Reduced, Lawful, value}
+use Rattle.polynomial.specs.Trees.{Tree, leaf, node, tree_mass, value}
 use Rattle.polynomial.proofs.Down.{constant-zero}
 use Rattle.polynomial.proofs.ElementFacts.{size_zero}
 use Rattle.polynomial.proofs.GrowthLaws.{grown_same, overfull_more}
 use Rattle.polynomial.proofs.Rings.{zero-add, zero-mul}
 use Rattle.polynomial.proofs.Theorems.{ring_laws, diagram_laws}
 use Rattle.diagram.specs.Filling.{Named}
-use Rattle.diagram.specs.Letters.{Lettered, Crowded, BadLetter, NoLetter}
+use Rattle.diagram.specs.Letters.{Lettered, BadLetter, NoLetter}
 use Rattle.diagram.specs.Nodes.{Moved, Joins, joint, Wanted, Joined, Granted, Denied}
 use Rattle.diagram.specs.Stores.{items}
-use Rattle.diagram.specs.Tables.{nodes, tree, of, LawfulIn, Kept, Stays}
+use Rattle.diagram.specs.Tables.{nodes, LawfulIn, Kept, Stays}
 use Rattle.diagram.specs.declared.entry.Entry.{Entry}
 use Rattle.diagram.specs.declared.entry.Reference.{Reference}
 use Rattle.diagram.specs.declared.store.Store.{Store}

@@ -1,10 +1,10 @@
 -- Marks for the entries that are reached.
-use Rattle.std.proofs.Common.{◌≡◌, ℕ, zero, suc, ◌+◌, ◌-◌, ◌<◌, ◌≤◌, Bool, true, false, cond, ◌≢◌, ◌⊎◌, ◌↔◌, List, [], ◌∷◌, length, get_or, set, replicate, sym, refl, ap, ◌∙◌, subst, inl, inr, add-one, arith, length-set, get_or-set_other, get_or-set_same}
+use Rattle.std.proofs.Common.{◌≡◌, ℕ, zero, suc, ◌+◌, ◌<◌, ◌≤◌, Bool, true, false, cond, ◌⊎◌, List, ◌∷◌, length, get_or, set, replicate, sym, refl, ap, ◌∙◌, subst, inl, inr, add-one, arith, length-set, get_or-set_other, get_or-set_same}
 use mathlib.Core.Bool.{false≢true}
 use native.Mathlib.Decide.{dec_lt}
 use lib.ListN.{length-replicate}
 use Rattle.polynomial.specs.Lists.{Among, Distinct}
-use Rattle.diagram.specs.Counting.{Reached, here, low, high, Counted, marked, Mark, EdgesMarked, Marking}
+use Rattle.diagram.specs.Counting.{Reached, here, low, high, Counted, marked, Mark, Marking}
 use Rattle.diagram.specs.Places.{Lower, Falls}
 use Rattle.diagram.specs.declared.entry.Entry.{Entry}
 use Rattle.diagram.proofs.Listing.{get_d_any}

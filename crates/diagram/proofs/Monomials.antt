@@ -1,10 +1,10 @@
 -- The coefficient at a monomial, by one way down through the entries.
-use Rattle.std.proofs.Common.{◌≡◌, ℕ, zero, suc, ◌+◌, ◌*◌, ◌<◌, ◌≤◌, Bool, true, false, ◌≢◌, ◌⊎◌, List, [], ◌∷◌, length, get_or, set, sym, refl, ap, ◌∙◌, subst, ap₂, inl, inr, le_trans, arith}
+use Rattle.std.proofs.Common.{◌≡◌, ℕ, zero, suc, ◌<◌, ◌≢◌, List, [], ◌∷◌, length, get_or, set, refl, ap, ◌∙◌, arith}
 use Rattle.domain.specs.Model.{Model, Sound}
 use Rattle.domain.specs.Ring.{Ring, Laws}
 use Rattle.polynomial.specs.Coefficients.{coefficient}
 use Rattle.polynomial.specs.Polynomials.{Polynomial, Poly, constant, letter, down}
-use Rattle.polynomial.specs.Trees.{Tree, leaf, node, Reduced, Lawful, value}
+use Rattle.polynomial.specs.Trees.{Tree, leaf, node, Reduced, value}
 use Rattle.polynomial.proofs.CoefficientLaws.{coefficient_nought, coefficient-add}
 use Rattle.polynomial.proofs.LetterRules.{down-value, split, reduced_ordered}
 use Rattle.polynomial.proofs.Rings.{zero-add, zero-mul}

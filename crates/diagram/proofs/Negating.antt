@@ -1,5 +1,5 @@
 -- Constants and negated references.
-use Rattle.std.proofs.Common.{◌≡◌, ℕ, zero, suc, ◌+◌, ◌*◌, ◌<◌, ◌≤◌, Bool, true, false, cond, ◌≢◌, List, length, Ok, Err, Result, sym, refl, ap, ◌∙◌, subst, ap₂, inl, inr, suc-mul, zero-mul as zero-mul-ℕ, arith}
+use Rattle.std.proofs.Common.{◌≡◌, ℕ, zero, suc, ◌*◌, ◌≤◌, Bool, true, cond, ◌≢◌, List, Ok, Err, Result, sym, refl, ap, ◌∙◌, subst, inl, inr, suc-mul, zero-mul as zero-mul-ℕ, arith}
 use Rattle.domain.specs.Answers.{negated}
 use Rattle.domain.specs.Model.{Model, Sound}
 use Rattle.domain.specs.Numbers.{no_code}
@@ -7,12 +7,12 @@ use Rattle.domain.specs.declared.fault.Fault.{Fault}
 use Rattle.domain.specs.Ring.{Ring, Laws}
 use Rattle.domain.specs.declared.number.Number.{Number}
 use Rattle.polynomial.specs.Coefficients.{coefficient}
-use Rattle.polynomial.specs.Polynomials.{Polynomial, Poly, constant, scaled}
-use Rattle.polynomial.specs.Trees.{Tree, leaf, tree_mass, Lawful, meaning, value}
+use Rattle.polynomial.specs.Polynomials.{Poly, constant}
+use Rattle.polynomial.specs.Trees.{Tree, tree_mass, meaning, value}
 use Rattle.polynomial.proofs.Rings.{one-mul, add-mul, cancel, mul-zero, zero-mul}
 use Rattle.polynomial.proofs.Theorems.{ring_laws, coefficient_laws}
 use Rattle.diagram.specs.Answering.{StandsFor}
-use Rattle.diagram.specs.Tables.{tree, of, mass_of, LawfulIn}
+use Rattle.diagram.specs.Tables.{tree, of, LawfulIn}
 use Rattle.diagram.specs.declared.entry.Entry.{Entry}
 use Rattle.diagram.specs.declared.entry.Reference.{Reference}
 

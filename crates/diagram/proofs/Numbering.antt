@@ -1,20 +1,18 @@
 -- The trees that numbers stand for.
-use Rattle.std.proofs.Common.{◌≡◌, ℕ, zero, suc, ◌+◌, ◌-◌, ◌*◌, ◌<◌, ◌≤◌, Bool, true, false, ◌≢◌, ◌⊎◌, List, [], ◌∷◌, ◌++◌, length, get_or, sym, refl, ap, ◌∙◌, subst, ap₂, inl, inr, arith, length-append}
+use Rattle.std.proofs.Common.{◌≡◌, ℕ, zero, suc, ◌+◌, ◌<◌, ◌≤◌, true, ◌≢◌, List, [], ◌∷◌, ◌++◌, length, get_or, sym, refl, ap, ◌∙◌, subst, arith, length-append}
 use Rattle.domain.specs.Model.{Model, Sound}
 use Rattle.domain.specs.declared.number.Number.{Number}
 use Rattle.polynomial.specs.Entries.{Entry as Node, look, stands, trees, Edges, Linked}
-use Rattle.polynomial.specs.Lists.{Among, Distinct}
-use Rattle.polynomial.specs.Trees.{Tree, leaf, node, tree_mass, Lawful, value}
+use Rattle.polynomial.specs.Lists.{Distinct}
+use Rattle.polynomial.specs.Trees.{Tree, leaf, node, Lawful, value}
 use Rattle.polynomial.proofs.GrowingTrees.{look-append, look_last}
 use Rattle.polynomial.proofs.GrowthLaws.{news, trees-append}
 use Rattle.polynomial.proofs.KnownEntries.{get_or-among, linked_of, unrolled}
 use Rattle.polynomial.proofs.Minimality.{length-trees}
 use Rattle.polynomial.proofs.Pigeonhole.{among_eq}
-use Rattle.diagram.specs.Places.{All, Falls, Absent}
-use Rattle.diagram.specs.Tables.{node_of, nodes, tree, of, Coded, LawfulIn, Stays}
+use Rattle.diagram.specs.Places.{Falls}
+use Rattle.diagram.specs.Tables.{node_of, nodes, tree, Stays}
 use Rattle.diagram.specs.declared.entry.Entry.{Entry}
-use Rattle.diagram.specs.declared.entry.Reference.{Reference}
-use Rattle.diagram.proofs.Listing.{get_d_any}
 
 pub node_not_leaf : {E : Type 0} (x : ℕ) (a : E) (m : Tree E) (b : E) (n : Tree E) → node x a m b n ≢ leaf
 node_not_leaf x a m b n e = let z : ◌≡◌ {A = ℕ} 0 1 = cc in omega arith

@@ -1,5 +1,5 @@
 -- Reading a letter order.
-use Rattle.std.proofs.Common.{◌≡◌, ℕ, ◌-◌, ◌<◌, ◌≤◌, Bool, true, false, List, length, get_or, take, Some, None, MatchBool, Option, sym, refl, ap, ◌∙◌, arith, length-take, length-take-le, get_or-take, ext_get_or}
+use Rattle.std.proofs.Common.{◌≡◌, ℕ, ◌<◌, ◌≤◌, Bool, true, false, List, length, get_or, take, Some, MatchBool, sym, ◌∙◌, arith, length-take, length-take-le, get_or-take, ext_get_or}
 use native.Mathlib.Nat.{min-le_left}
 use Rattle.diagram.specs.Orders.{Letter, Fresh}
 use Rattle.diagram.specs.Places.{Absent, Located}

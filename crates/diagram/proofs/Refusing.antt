@@ -1,5 +1,5 @@
 -- The exit of a `?`, and what a domain answers to codes.
-use Rattle.std.proofs.Common.{◌≡◌, Bool, true, false, cond, IsErrAnd, Ok, Err, Result, sym, refl, ap, ◌∙◌, ap₂, MatchResult}
+use Rattle.std.proofs.Common.{◌≡◌, Bool, true, false, cond, IsErrAnd, Ok, Err, Result, ap, MatchResult}
 use Rattle.domain.specs.Answers.{factored}
 use Rattle.domain.specs.Model.{Model}
 use Rattle.domain.specs.Numbers.{is_zero, no_code}

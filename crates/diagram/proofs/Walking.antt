@@ -1,5 +1,5 @@
 -- One step down.
-use Rattle.std.proofs.Common.{◌≡◌, ℕ, zero, suc, ◌-◌, ◌*◌, ◌<◌, ◌≤◌, Bool, true, false, cond, leb, ◌≢◌, ◌⊎◌, List, length, get_or, set, pos, Ok, Err, MatchBool, Result, sym, refl, ap, ◌∙◌, subst, inl, inr, le_trans, arith, length-set, MatchResult}
+use Rattle.std.proofs.Common.{◌≡◌, ℕ, suc, ◌-◌, ◌<◌, ◌≤◌, Bool, true, false, cond, leb, ◌≢◌, ◌⊎◌, List, length, get_or, pos, Ok, Err, MatchBool, Result, sym, refl, ap, ◌∙◌, subst, inl, inr, le_trans, arith, length-set, MatchResult}
 use Rattle.std.proofs.lemmas.Bool.{le-leb}
 use Rattle.domain.specs.Answers.{multiplied}
 use Rattle.domain.specs.Model.{Model, Sound}
@@ -9,7 +9,7 @@ use Rattle.domain.specs.declared.fault.Fault.TheVariants.{OverLimit}
 use Rattle.domain.specs.declared.number.Number.{Number}
 use Rattle.polynomial.specs.Coefficients.{coefficient}
 use Rattle.polynomial.specs.Entries.{stands, trees}
-use Rattle.polynomial.specs.Trees.{Tree, leaf, node, Reduced, Lawful, value}
+use Rattle.polynomial.specs.Trees.{Tree, node, Reduced, Lawful, value}
 use Rattle.polynomial.proofs.Canonicity.{le-mass, below_lawful, beside_lawful}
 use Rattle.polynomial.proofs.ElementFacts.{facts}
 use Rattle.diagram.specs.Checks.{Never}

@@ -1,8 +1,8 @@
 -- The masses of the entries, one after the other.
-use Rattle.std.proofs.Common.{◌≡◌, ℕ, zero, suc, ◌+◌, ◌*◌, ◌<◌, ◌≤◌, min, List, [], ◌∷◌, length, get_or, set, sym, refl, ap, ◌∙◌, subst, ap₂, suc-mul, zero-mul, arith, length-set, get_or-set_other, get_or-set_same}
+use Rattle.std.proofs.Common.{◌≡◌, ℕ, zero, suc, ◌+◌, ◌*◌, ◌<◌, ◌≤◌, List, length, get_or, set, sym, ap, ◌∙◌, subst, ap₂, suc-mul, zero-mul, arith, length-set, get_or-set_other, get_or-set_same}
 use native.Mathlib.Nat.{min-eq_left, min-eq_right}
 use native.Mathlib.Decide.{dec_lt}
-use Rattle.domain.specs.Model.{Model, Sound}
+use Rattle.domain.specs.Model.{Model}
 use Rattle.polynomial.specs.Entries.{stands, trees}
 use Rattle.polynomial.specs.Trees.{tree_mass}
 use Rattle.diagram.specs.Masses.{capped, weighed}

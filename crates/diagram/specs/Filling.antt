@@ -1,5 +1,5 @@
 -- Filling a table by hand.
-use Rattle.std.specs.Prelude.{◌≡◌, ℕ, ◌+◌, ◌<◌, ◌≤◌, true, List, [], ◌∷◌, ◌++◌, length, Ok, Err, Result, slice_index, slice_index_or}
+use Rattle.std.specs.Prelude.{◌≡◌, ℕ, ◌+◌, ◌<◌, ◌≤◌, true, List, [], ◌∷◌, ◌++◌, length, slice_index, slice_index_or}
 use Rattle.domain.specs.Model.{Model}
 use Rattle.domain.specs.Numbers.{no_code}
 use Rattle.domain.specs.declared.fault.Fault.{Fault}

@@ -1,12 +1,12 @@
 -- The coefficient at a monomial.
-use Rattle.std.specs.Prelude.{◌≡◌, ℕ, suc, ◌<◌, ◌≤◌, true, ◌⊎◌, List, length, slice_index, slice_index_or, slice_set}
+use Rattle.std.specs.Prelude.{◌≡◌, ℕ, suc, ◌<◌, true, List, length, slice_index, slice_index_or, slice_set}
 use Rattle.domain.specs.Model.{Model}
 use Rattle.domain.specs.declared.fault.Fault.{Fault}
 use Rattle.domain.specs.declared.fault.Fault.TheVariants.{Unlawful, BadExponents}
 use Rattle.domain.specs.declared.number.Number.{Number}
 use Rattle.polynomial.specs.Coefficients.{coefficient}
 use Rattle.diagram.specs.Checks.{Else}
-use Rattle.diagram.specs.Tables.{of, LawfulIn, Kept}
+use Rattle.diagram.specs.Tables.{of, LawfulIn}
 use Rattle.diagram.specs.declared.entry.Edge.{Edge}
 use Rattle.diagram.specs.declared.entry.Entry.{Entry}
 use Rattle.diagram.specs.declared.entry.Reference.{Reference}

@@ -1,5 +1,5 @@
 -- Letter orders.
-use Rattle.std.specs.Prelude.{◌≡◌, ℕ, ◌<◌, ◌≤◌, List, length, ◌≢◌, slice_index}
+use Rattle.std.specs.Prelude.{ℕ, ◌<◌, ◌≤◌, List, length, ◌≢◌, slice_index}
 
 -- a letter from a to p
 abbrev pub Letter : ℕ → Type 0

@@ -3,7 +3,7 @@ use Rattle.std.proofs.Common.{◌≡◌, ℕ, zero, suc, ◌+◌, ◌<◌, ◌�
 use Rattle.domain.specs.Model.{Model}
 use Rattle.domain.specs.Ring.{Ring, Laws}
 use Rattle.polynomial.specs.Masses.{Bounded, total, mass}
-use Rattle.polynomial.specs.Polynomials.{Polynomial, Poly, constant}
+use Rattle.polynomial.specs.Polynomials.{Polynomial}
 use Rattle.polynomial.specs.Trees.{Tree, height, meaning, value}
 use Rattle.polynomial.proofs.ElementFacts.{Facts}
 use Rattle.polynomial.proofs.TreeMasses.{Short, short_tree, short_const, mass-zero}

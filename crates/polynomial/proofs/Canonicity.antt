@@ -1,5 +1,5 @@
 -- A polynomial has one weight and one reduced tree.
-use Rattle.std.proofs.Common.{◌≡◌, ℕ, zero, ◌*◌, ◌≤◌, ◌≢◌, sym, refl, ap, ◌∙◌, subst, ap₂, inl, inr, le_trans, mul_assoc, mul-le-mul_left, mul-one, arith}
+use Rattle.std.proofs.Common.{◌≡◌, ℕ, ◌*◌, ◌≤◌, ◌≢◌, sym, refl, ap, ◌∙◌, subst, ap₂, inl, inr, le_trans, mul_assoc, mul-le-mul_left, mul-one, arith}
 use native.Mathlib.Nat.{one-le-mul}
 use native.Mathlib.Decide.{dec_lt}
 use Rattle.domain.specs.Ring.{Ring, Laws}

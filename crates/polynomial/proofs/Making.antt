@@ -1,5 +1,5 @@
 -- The weight and the reduced tree of (a, m) + x (b, n).
-use Rattle.std.proofs.Common.{◌≡◌, ℕ, zero, ◌+◌, ◌*◌, ◌<◌, ◌≤◌, Bool, true, false, ◌≢◌, sym, refl, ap, ◌∙◌, subst, ap₂, inl, inr, true≢false, le_trans, mul-le-mul_right, mul_assoc, zero-mul as zero-mul-ℕ, mul-add, arith}
+use Rattle.std.proofs.Common.{◌≡◌, ℕ, ◌+◌, ◌*◌, ◌<◌, ◌≤◌, Bool, true, false, ◌≢◌, sym, refl, ap, ◌∙◌, subst, ap₂, inl, inr, true≢false, le_trans, mul-le-mul_right, mul_assoc, zero-mul as zero-mul-ℕ, mul-add, arith}
 use Rattle.polynomial.specs.Elements.{is_zero, factor}
 use Rattle.polynomial.specs.Polynomials.{Poly, letter}
 use Rattle.polynomial.specs.Trees.{Tree, node, After, From, Reduced, tree_mass, Lawful, meaning, value, make}

@@ -1,5 +1,5 @@
 -- The trees that a polynomial needs are those in its reduced tree.
-use Rattle.std.proofs.Common.{◌≡◌, ℕ, zero, ◌*◌, ◌<◌, ◌≤◌, ◌≢◌, sym, refl, ap, ◌∙◌, subst, ap₂, inl, inr, zero-mul as zero-mul-ℕ, arith}
+use Rattle.std.proofs.Common.{◌≡◌, ℕ, ◌*◌, ◌<◌, ◌≤◌, ◌≢◌, sym, refl, ap, ◌∙◌, subst, ap₂, inl, inr, zero-mul as zero-mul-ℕ, arith}
 use native.Mathlib.Decide.{dec_lt}
 use Rattle.domain.specs.Ring.{Ring, Laws}
 use Rattle.polynomial.specs.Diagrams.{Inside}

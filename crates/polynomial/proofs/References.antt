@@ -1,5 +1,5 @@
 -- Every polynomial with a mass within the limit has a lawful reference.
-use Rattle.std.proofs.Common.{◌≡◌, ℕ, zero, suc, ◌+◌, ◌*◌, ◌<◌, ◌≤◌, sym, refl, ap, ◌∙◌, ap₂, mul-one, arith}
+use Rattle.std.proofs.Common.{◌≡◌, ℕ, zero, suc, ◌+◌, ◌*◌, ◌<◌, ◌≤◌, sym, refl, ap, ◌∙◌, ap₂, arith}
 use Rattle.domain.specs.Ring.{Ring, Laws}
 use Rattle.polynomial.proofs.Shapes.{Found}
 use Rattle.polynomial.specs.Masses.{total, mass, Bounded}

@@ -1,13 +1,13 @@
 -- The examples, by computation and by the laws.
-use Rattle.std.proofs.Common.{◌≡◌, ℕ, zero, suc, ◌<◌, ◌≤◌, ◌≢◌, ◌⊎◌, List, [], ◌∷◌, ℤ, pos, nat_abs, sym, refl, ap, ◌∙◌, inl, inr, arith}
+use Rattle.std.proofs.Common.{◌≡◌, ℕ, ◌≢◌, [], ◌∷◌, ℤ, pos, nat_abs, sym, refl, ap, ◌∙◌, inl, inr, arith}
 use Rattle.polynomial.specs.Coefficients.{coefficient}
 use Rattle.polynomial.specs.Elements.{factor}
 use Rattle.polynomial.specs.Examples.{Examples, P, a, b, six_a_four, three_a_two, just_b, ab_b, entry_b}
 use Rattle.polynomial.specs.Diagrams.{Inside}
 use Rattle.polynomial.specs.Lists.{Among, Distinct}
 use Rattle.polynomial.specs.Polynomials.{Polynomial, constant}
-use Rattle.polynomial.specs.Trees.{Tree, leaf, node, Reduced, Lawful, value}
-use Rattle.polynomial.specs.Working.{Leads, Working, times, whole}
+use Rattle.polynomial.specs.Trees.{Tree, Reduced, Lawful, value}
+use Rattle.polynomial.specs.Working.{Leads, times, whole}
 use Rattle.polynomial.proofs.Down.{down-zero, constant-mul}
 use Rattle.polynomial.proofs.Rings.{mul_swap}
 use Rattle.polynomial.proofs.Theorems.{ring_laws, degree_laws}

@@ -1,13 +1,12 @@
 -- The theorems, from the laws of a domain.
-use Rattle.std.proofs.Common.{◌≡◌, ℕ, ◌≤◌, Bool, true, false, ◌⊎◌, ◌↔◌, List, ◌++◌, sym, refl, ap, ◌∙◌, subst, ap₂, inl, inr, arith}
+use Rattle.std.proofs.Common.{ℕ, Bool, false, ◌↔◌, List, ◌++◌, sym, refl, ap, ◌∙◌, subst, ap₂, inl, inr, arith}
 use Rattle.domain.specs.Model.{Model, Sound}
 use Rattle.polynomial.specs.Coefficients.{coefficient}
 use Rattle.polynomial.specs.Diagrams.{Inside, InDiagram}
 use Rattle.polynomial.specs.Entries.{Entry}
 use Rattle.polynomial.specs.Growth.{Either, Outcome}
-use Rattle.polynomial.specs.Lists.{Among}
-use Rattle.polynomial.specs.Polynomials.{Polynomial, Poly}
-use Rattle.polynomial.specs.Theorems.{RingLaws, CoefficientLaws, MassLaws, DegreeLaws, Canonical, Reference, Existence, LeastEntries, Attained, DiagramLaws, WorkingLaws, Of, GrowthLaws, Room, KnownEntries}
+use Rattle.polynomial.specs.Polynomials.{Poly}
+use Rattle.polynomial.specs.Theorems.{RingLaws, CoefficientLaws, MassLaws, DegreeLaws, Canonical, Existence, LeastEntries, Attained, DiagramLaws, WorkingLaws, Of, GrowthLaws, Room, KnownEntries}
 use Rattle.polynomial.specs.Trees.{Tree, Reduced, Lawful, value}
 use Rattle.polynomial.proofs.Bounds.{bounded_value, mass_bound}
 use Rattle.polynomial.proofs.Canonicity.{canonical as determined, le-mass}

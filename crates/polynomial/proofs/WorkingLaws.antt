@@ -1,5 +1,5 @@
 -- The working polynomials of a product, taken apart by one letter.
-use Rattle.std.proofs.Common.{◌≡◌, ℕ, zero, ◌<◌, ◌≢◌, ◌⊎◌, sym, ap, ◌∙◌, subst, inl, inr, arith}
+use Rattle.std.proofs.Common.{◌≡◌, ℕ, ◌<◌, ◌≢◌, ◌⊎◌, sym, ap, ◌∙◌, subst, inl, inr, arith}
 use native.Mathlib.Decide.{dec_lt}
 use Rattle.domain.specs.Ring.{Ring}
 use Rattle.polynomial.specs.Polynomials.{Polynomial, Poly, letter, down}

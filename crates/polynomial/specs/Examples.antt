@@ -1,5 +1,5 @@
 -- One small example of each definition, over the integers and the letters a and b.
-use Rattle.std.specs.Prelude.{◌≡◌, ℕ, List, [], ◌∷◌, ℤ, pos}
+use Rattle.std.specs.Prelude.{◌≡◌, [], ◌∷◌, ℤ, pos}
 use Rattle.domain.specs.Ring.{Ring}
 use Rattle.polynomial.specs.Coefficients.{coefficient}
 use Rattle.polynomial.specs.Degree.{Degree}
@@ -10,7 +10,7 @@ use Rattle.polynomial.specs.Masses.{mass}
 use Rattle.polynomial.specs.Polynomials.{Polynomial, Poly, constant, letter, scaled}
 use Rattle.polynomial.specs.Rivals.{Rival}
 use Rattle.polynomial.specs.Theorems.{Of}
-use Rattle.polynomial.specs.Trees.{Tree, leaf, node, Reduced, Lawful, tree_mass, meaning, value}
+use Rattle.polynomial.specs.Trees.{Tree, leaf, node, Reduced, Lawful, tree_mass, value}
 use Rattle.polynomial.specs.Working.{Working}
 use Rattle.whole.specs.Integers.{integers, integer_ring}
 

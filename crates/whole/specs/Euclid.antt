@@ -1,7 +1,6 @@
 -- Euclid's algorithm gives the greatest common divisor.
 use Rattle.std.specs.Prelude.{◌≡◌, ℕ, zero, suc, ◌-◌, ◌*◌, ◌/◌, ◌%◌, ◌<◌, ◌≤◌, ◌≢◌, refl}
-use Rattle.std.proofs.Common.{sym, ap, subst, ◌∙◌, arith, mod-lt, mul_assoc, mul-zero, mul-pos}
-use Rattle.std.specs.Int.{◌∣◌}
+use Rattle.std.proofs.Common.{sym, ap, ◌∙◌, arith, mod-lt, mul_assoc, mul-zero, mul-pos}
 use Rattle.std.proofs.Math.Nat.{mod_def, mul-sub, mul-div-mul_left, mul-lt-mul_of_pos_left, dvd_refl, dvd-zero, dvd-mod_iff, pos_of_dvd_of_pos, le_of_dvd}
 use Rattle.whole.specs.Divisors.{euclid, gcd, Greatest}
 

@@ -1,17 +1,17 @@
 -- The integers keep the laws of a domain.
-use Rattle.std.specs.Prelude.{◌≡◌, ℕ, zero, suc, ◌*◌, ◌/◌, ◌<◌, ◌≤◌, Bool, true, false, ◌≢◌, ◌⊎◌, ℤ, pos, negsuc, ◌*ℤ◌, neg_ℤ, int_div, unsigned_abs, refl}
+use Rattle.std.specs.Prelude.{◌≡◌, ℕ, zero, suc, ◌*◌, ◌/◌, ◌<◌, ◌≤◌, Bool, true, false, ◌≢◌, ℤ, pos, negsuc, ◌*ℤ◌, neg_ℤ, int_div, unsigned_abs, refl}
 use Rattle.std.proofs.Common.{sym, ap, ap₂, subst, ◌∙◌, inl, inr, arith, mul-pos, mul-le-mul_right, leb-true}
 use Rattle.std.specs.Int.{◌∣◌}
 use Rattle.std.proofs.Math.Nat.{mul-div_cancel'}
 use Rattle.std.proofs.Math.IntN.{neg_ℤ-neg_ℤ}
 use Rattle.std.proofs.lemmas.Bool.{le-leb}
 use Rattle.domain.specs.declared.number.Number.{Number}
-use Rattle.whole.specs.Divisors.{gcd, Greatest}
+use Rattle.whole.specs.Divisors.{gcd}
 use Rattle.whole.specs.Integers.{integers, signed, negative, common}
 use Rattle.domain.specs.Model.{Codes, Factors, Scales, Sound}
 use Rattle.domain.specs.Numbers.{number}
 use Rattle.whole.specs.Euclid.{gcd_greatest, gcd-pos, gcd_small, gcd-scaled}
-use Rattle.whole.specs.IntegerRing.{integer_laws, neg-mul, mul-neg, abs_neg, abs-mul, abs-add, abs-zero, abs-pos, no_divisors, cancel_mul}
+use Rattle.whole.specs.IntegerRing.{integer_laws, mul-neg, abs_neg, abs-mul, abs-add, abs-zero, abs-pos, no_divisors, cancel_mul}
 
 signed-abs : (s : Bool) (n : ℕ) → unsigned_abs (signed s n) ≡ n
 signed-abs true n = abs_neg (pos n)

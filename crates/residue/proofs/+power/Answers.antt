@@ -1,4 +1,4 @@
-use Rattle.std.proofs.Common.{◌≡◌, ℕ, ◌*◌, ◌%◌, ◌^◌, sym, ap, ◌∙◌}
+use Rattle.std.proofs.Common.{ℕ, ◌*◌, ◌%◌, ◌^◌, sym, ap, ◌∙◌}
 use native.Mathlib.Nat.{pow-zero}
 use Rattle.residue.specs.Modular.{even_power, odd_power}
 use Rattle.residue.proofs.+power.Goals as goal

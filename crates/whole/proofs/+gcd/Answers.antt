@@ -1,4 +1,4 @@
-use Rattle.std.proofs.Common.{◌≡◌, ℕ, sym, ap, ◌∙◌, subst}
+use Rattle.std.proofs.Common.{ℕ, sym, ap, ◌∙◌, subst}
 use Rattle.whole.specs.Divisors.{gcd, Greatest}
 use Rattle.whole.specs.Euclid.{gcd-next, greatest_none, greatest_next}
 use Rattle.whole.proofs.+gcd.Goals as goal

@@ -1,5 +1,4 @@
-use Rattle.std.proofs.Common.{arith, rules}
-use Rattle.diagram.specs.Orders.{Proper}
+use Rattle.std.proofs.Common.{rules}
 use Rattle.diagram.proofs.Ordering.{at-start}
 use Rattle.diagram.proofs.order.Order.read.Goals as goal
 

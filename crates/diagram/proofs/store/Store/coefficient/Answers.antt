@@ -6,7 +6,7 @@ use Rattle.diagram.proofs.store.Store.coefficient.Goals as goal
 pub returns : goal.returns
 returns g c =
     let M = g.D.Domain.model c.args.domain.now in
-    let h = c.in-ok-lawful.ensures.checked in
+    let h = c.in_ok-lawful.ensures.checked in
     let u = c.args.exponents.now in
     let long : length u ≡ c.args.letters = c.if-exponents-letters.false in
     let start : take (length u) c.held-left.result ≡ u = at-start c.held-left.result u (omega (arith, c.held-left.ensures.full, c.requires, long)) c.held-left.ensures.same in

@@ -7,8 +7,8 @@ returns-in-Ok g c =
     let M = g.D.Domain.model c.args.domain.now in
     let s = sized_ok M c.args.f.weight c.in-Ok.size (sym c.in-Ok.is ∙ c.size.ensures) in
     record {
-      coded = when_true (leb c.saturating-mul.result c.limit.result) s.0;
-      light = λ all. tested M (g.met.D.Domain.sound c.args.domain.now) _ c.args.f c.in-Ok.size c.mass.result c.saturating-mul.result c.limit.result s.0 s.1 (c.mass.ensures all) c.saturating-mul.ensures c.limit.ensures;
+      coded = when_true (leb c.saturating_mul.result c.limit.result) s.0;
+      light = λ all. tested M (g.met.D.Domain.sound c.args.domain.now) _ c.args.f c.in-Ok.size c.mass.result c.saturating_mul.result c.limit.result s.0 s.1 (c.mass.ensures all) c.saturating_mul.ensures c.limit.ensures;
     }
 
 pub returns-in-Err : goal.returns-in-Err

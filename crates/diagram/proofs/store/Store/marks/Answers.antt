@@ -1,4 +1,4 @@
-use Rattle.std.proofs.Common.{◌≡◌, suc, ◌+◌, ◌-◌, sym, subst, arith}
+use Rattle.std.proofs.Common.{◌≡◌, suc, ◌+◌, ◌-◌, subst, arith}
 use Rattle.diagram.specs.Counting.{Mark, Marking}
 use Rattle.diagram.specs.Stores.{items}
 use Rattle.diagram.proofs.Marking.{marking_start, marking_on}
