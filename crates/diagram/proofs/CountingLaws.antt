@@ -11,7 +11,7 @@ use Rattle.diagram.specs.Places.{Falls}
 use Rattle.diagram.specs.Tables.{node_of, nodes, tree, LawfulIn, Kept}
 use Rattle.diagram.specs.declared.entry.Entry.{Entry}
 use Rattle.diagram.specs.declared.entry.Reference.{Reference}
-use Rattle.diagram.proofs.Listing.{get_d_any}
+use Rattle.diagram.proofs.Listing.{get_or-any}
 use Rattle.diagram.proofs.Numbering.{tree-at, tree_inj}
 
 inside_trans : {E : Type 0} (a b c : Tree E) → Inside a b → Inside b c → Inside a c
@@ -22,7 +22,7 @@ inside_trans a b (node x p m q n) i (inr (inr j)) = inr (inr (inside_trans a b n
 
 entry_at : (es : List Entry) (i : ℕ) → i < length es → (e : Entry) × (get_or es i e ≡ e)
 entry_at [] i h = absurd (omega arith)
-entry_at (d ∷ es) i h = (get_or (d ∷ es) i d, get_d_any (d ∷ es) i (get_or (d ∷ es) i d) d h)
+entry_at (d ∷ es) i h = (get_or (d ∷ es) i d, get_or-any (d ∷ es) i (get_or (d ∷ es) i d) d h)
 
 module _ {E : Type 0} (M : Model E) (es : List Entry) (fall : Falls es) where
   at_is : (i : ℕ) (e : Entry) → i < length es → get_or es i e ≡ e → tree M es (suc i) ≡ stands (trees (nodes M es)) (node_of M e)

@@ -4,7 +4,7 @@ use mathlib.Core.Bool.{false≢true}
 use native.Mathlib.Decide.{dec_lt}
 use lib.Seq.{get_or-append_seam}
 use Rattle.domain.specs.Model.{Model, Sound}
-use Rattle.domain.specs.Numbers.{is_zero as zero-code}
+use Rattle.domain.specs.Numbers.{is_zero as zero_code}
 use Rattle.domain.specs.declared.fault.Fault.{Fault}
 use Rattle.domain.specs.declared.fault.Fault.TheVariants.{Full}
 use Rattle.domain.specs.declared.number.Number.{Number}
@@ -83,12 +83,12 @@ mass_light M S g t some l =
 
 same_entry : {E : Type 0} (M : Model E) → Sound M → (a b : Entry) → Coded M 0 a → Coded M 0 b → node_of M a ≡ node_of M b → a ≡ b
 same_entry {E} M S a b ca cb e =
-    let e-letter : a.letter ≡ b.letter = ap (λ (n : Node E). n.letter) e in
-    let e-lo : a.additive.target ≡ b.additive.target = ap (λ (n : Node E). n.lo) e in
-    let e-hi : a.multiplicative.target ≡ b.multiplicative.target = ap (λ (n : Node E). n.hi) e in
-    let e-p : a.additive.weight ≡ b.additive.weight = code_inj M S a.additive.weight b.additive.weight ca.0 cb.0 (ap (λ (n : Node E). n.p) e) in
-    let e-q : a.multiplicative.weight ≡ b.multiplicative.weight = code_inj M S a.multiplicative.weight b.multiplicative.weight ca.1 cb.1 (ap (λ (n : Node E). n.q) e) in
-    λ i. record { letter = e-letter i; additive = record { weight = e-p i; target = e-lo i }; multiplicative = record { weight = e-q i; target = e-hi i } }
+    let e_letter : a.letter ≡ b.letter = ap (λ (n : Node E). n.letter) e in
+    let e_lo : a.additive.target ≡ b.additive.target = ap (λ (n : Node E). n.lo) e in
+    let e_hi : a.multiplicative.target ≡ b.multiplicative.target = ap (λ (n : Node E). n.hi) e in
+    let e_p : a.additive.weight ≡ b.additive.weight = code_inj M S a.additive.weight b.additive.weight ca.0 cb.0 (ap (λ (n : Node E). n.p) e) in
+    let e_q : a.multiplicative.weight ≡ b.multiplicative.weight = code_inj M S a.multiplicative.weight b.multiplicative.weight ca.1 cb.1 (ap (λ (n : Node E). n.q) e) in
+    λ i. record { letter = e_letter i; additive = record { weight = e_p i; target = e_lo i }; multiplicative = record { weight = e_q i; target = e_hi i } }
 
 -- an entry that is not there has a node that is not there
 not_among : {E : Type 0} (M : Model E) → Sound M → (es : List Entry) (e : Entry) → All (Coded M) es → Coded M 0 e → Absent es e (length es) → Among (node_of M e) (nodes M es) → ⊥
@@ -118,7 +118,7 @@ module _ {E : Type 0} (M : Model E) (S : Sound M) (k : ℕ) (es : List Entry) (x
   there i s nl e = elim (look_among (trees (nodes M es)) i) [ inl z ↦ absurd (nl (e ∙ z)) | inr a ↦ among_eq s (tree M es i) (trees (nodes M es)) e a ]
 
   -- nothing to multiply by the letter
-  pub joined_none : (cap : ℕ) → length es ≤ cap → zero-code g.weight ≡ true → Joined M k cap es es x f g f
+  pub joined_none : (cap : ℕ) → length es ≤ cap → zero_code g.weight ≡ true → Joined M k cap es es x f g f
   joined_none cap room e =
       let j : joint M es x f g ≡ (v, m) = make-zero M x v m w n (is_zero_code S g.weight J.right.coded ∙ e) in
       record {
@@ -130,9 +130,9 @@ module _ {E : Type 0} (M : Model E) (S : Sound M) (k : ℕ) (es : List Entry) (x
         tree_is = sym (ap (λ (r : E × Tree E). r.1) j);
       }
 
-  module _ (some : zero-code g.weight ≡ false) where
+  module _ (some : zero_code g.weight ≡ false) where
     nonzero : w ≢ M.ring.zero
-    nonzero e = let c : g.weight ≡ M.code M.ring.zero = sym (S.codes.only g.weight J.right.coded) ∙ ap M.code e in false≢true (sym some ∙ ap zero-code (c ∙ code_zero S))
+    nonzero e = let c : g.weight ≡ M.code M.ring.zero = sym (S.codes.only g.weight J.right.coded) ∙ ap M.code e in false≢true (sym some ∙ ap zero_code (c ∙ code_zero S))
 
     abbrev pub F : E × E × E
     F = factor M v w

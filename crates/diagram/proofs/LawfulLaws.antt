@@ -4,7 +4,7 @@ use mathlib.Core.Bool.{false≢true}
 use Rattle.std.proofs.lemmas.Bool.{eqb-true, eqb-false}
 use Rattle.domain.specs.Answers.{sized}
 use Rattle.domain.specs.Model.{Model, Sound}
-use Rattle.domain.specs.Numbers.{number, is_zero as zero-code, no_code}
+use Rattle.domain.specs.Numbers.{number, is_zero as zero_code, no_code}
 use Rattle.domain.specs.declared.fault.Fault.{Fault}
 use Rattle.domain.specs.declared.number.Number.{Number}
 use Rattle.polynomial.specs.Trees.{tree_mass}
@@ -18,10 +18,10 @@ use Rattle.diagram.proofs.Numbering.{leaf_zero}
 use Rattle.diagram.proofs.Weighing.{capped-times, capped_within}
 
 -- the number 0 is the only one that passes its test
-pub zero_only : (n : Number) → zero-code n ≡ true → n ≡ number (pos 0)
+pub zero_only : (n : Number) → zero_code n ≡ true → n ≡ number (pos 0)
 zero_only n e = go n.int e
   where
-    go : (z : ℤ) → zero-code (number z) ≡ true → number z ≡ number (pos 0)
+    go : (z : ℤ) → zero_code (number z) ≡ true → number z ≡ number (pos 0)
     go (pos n) e = ap (λ m. number (pos m)) (eqb-true n 0 e)
     go (negsuc n) e = absurd (false≢true e)
 
@@ -61,11 +61,11 @@ module _ {E : Type 0} (M : Model E) where
             record { coded = coded; light = (capped_within (mass_of M es f) M.limit S.codes.most).0 (omega (arith, h, is, el)) }
         go false q = λ L. let h = leb-false r l q in let k = (capped_within (mass_of M es f) M.limit S.codes.most).1 L.light in omega (arith, h, is, el, k)
 
-    value-zero : zero-code f.weight ≡ true → M.value f.weight ≡ M.ring.zero
+    value-zero : zero_code f.weight ≡ true → M.value f.weight ≡ M.ring.zero
     value-zero z = ap M.value (zero_only f.weight z) ∙ S.codes.zero.1
 
     -- a zero weight
-    pub zero_lawful : zero-code f.weight ≡ true → f.entry ≡ 0 → LawfulIn M es f
+    pub zero_lawful : zero_code f.weight ≡ true → f.entry ≡ 0 → LawfulIn M es f
     zero_lawful z e =
         let s : M.size (M.value f.weight) ≡ 0 = ap M.size (value-zero z) ∙ size_zero S in
         let l : mass_of M es f ≡ 0 = ap (λ n. n * tree_mass M (tree M es f.entry)) s ∙ zero-mul (tree_mass M (tree M es f.entry)) in
@@ -75,18 +75,18 @@ module _ {E : Type 0} (M : Model E) where
           lawful = record { bare = λ _. ap (tree M es) e; light = omega arith };
         }
 
-    pub zero_unlawful : Falls es → zero-code f.weight ≡ true → f.entry ≢ 0 → LawfulIn M es f → ⊥
+    pub zero_unlawful : Falls es → zero_code f.weight ≡ true → f.entry ≢ 0 → LawfulIn M es f → ⊥
     zero_unlawful fall z e L = e (leaf_zero M es f.entry fall L.inside (L.lawful.bare (value-zero z)))
 
     -- a weight that is not zero
-    pub some_lawful : f.entry ≤ length es → zero-code f.weight ≡ false → (b : Bool) → MatchBool b (LightIn M es f) (LightIn M es f → ⊥) → MatchBool b (LawfulIn M es f) (LawfulIn M es f → ⊥)
+    pub some_lawful : f.entry ≤ length es → zero_code f.weight ≡ false → (b : Bool) → MatchBool b (LightIn M es f) (LightIn M es f → ⊥) → MatchBool b (LawfulIn M es f) (LawfulIn M es f → ⊥)
     some_lawful h z true L =
         let some : M.value f.weight ≢ M.ring.zero =
-        λ e. let w : f.weight ≡ number (pos 0) = sym (S.codes.only f.weight L.coded) ∙ (ap M.code e ∙ code_zero S) in false≢true (sym z ∙ ap zero-code w) in
+        λ e. let w : f.weight ≡ number (pos 0) = sym (S.codes.only f.weight L.coded) ∙ (ap M.code e ∙ code_zero S) in false≢true (sym z ∙ ap zero_code w) in
         record { coded = L.coded; inside = h; lawful = record { bare = λ e. absurd (some e); light = L.light } }
     some_lawful h z false L = λ U. L (record { coded = U.coded; light = U.lawful.light })
 
-    pub zero_tested : Falls es → zero-code f.weight ≡ true → MatchBool (eqb f.entry 0) (LawfulIn M es f) (LawfulIn M es f → ⊥)
+    pub zero_tested : Falls es → zero_code f.weight ≡ true → MatchBool (eqb f.entry 0) (LawfulIn M es f) (LawfulIn M es f → ⊥)
     zero_tested fall z = go (eqb f.entry 0) refl
       where
         go : (b : Bool) → eqb f.entry 0 ≡ b → MatchBool b (LawfulIn M es f) (LawfulIn M es f → ⊥)

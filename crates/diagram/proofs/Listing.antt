@@ -17,7 +17,7 @@ all_push P xs x h here k d lt =
     (below_or k (length xs) lt')
 
 -- inside a list the default does not matter
-pub get_d_any : {X : Type 0} (l : List X) (i : ℕ) (c d : X) → i < length l → get_or l i c ≡ get_or l i d
-get_d_any [] i c d h = absurd (omega arith)
-get_d_any (a ∷ l) zero c d h = refl
-get_d_any (a ∷ l) (suc i) c d h = get_d_any l i c d (omega arith)
+pub get_or-any : {X : Type 0} (l : List X) (i : ℕ) (c d : X) → i < length l → get_or l i c ≡ get_or l i d
+get_or-any [] i c d h = absurd (omega arith)
+get_or-any (a ∷ l) zero c d h = refl
+get_or-any (a ∷ l) (suc i) c d h = get_or-any l i c d (omega arith)

@@ -7,7 +7,7 @@ use Rattle.polynomial.specs.Lists.{Among, Distinct}
 use Rattle.diagram.specs.Counting.{Reached, here, low, high, Counted, marked, Mark, Marking}
 use Rattle.diagram.specs.Places.{Lower, Falls}
 use Rattle.diagram.specs.declared.entry.Entry.{Entry}
-use Rattle.diagram.proofs.Listing.{get_d_any}
+use Rattle.diagram.proofs.Listing.{get_or-any}
 
 module _ (ms : List Bool) where
   abbrev next : ℕ → Bool → List ℕ
@@ -144,7 +144,7 @@ module _ (es : List Entry) (n j : ℕ) (ms : List Bool) (e : Entry) (fall : Fall
             elim (dec_lt j y) [
               | yes k ↦ λ d. let c = K.closed y (omega arith) h (old (suc y) (omega arith) p) d in (keep _ c.0, keep _ c.1)
               | no k ↦ λ d. let q : y ≡ j = omega arith in
-                  let is : get_or es y d ≡ e = ap (λ i. get_or es i d) q ∙ (get_d_any es j d e inside ∙ sym at) in
+                  let is : get_or es y d ≡ e = ap (λ i. get_or es i d) q ∙ (get_or-any es j d e inside ∙ sym at) in
                   (subst (λ z. Mark both z.additive.target) (sym is) ma, subst (λ z. Mark both z.multiplicative.target) (sym is) mb)
             ];
       }

@@ -25,7 +25,7 @@ class_name i h = grind (arith, nat_tests)
 pub class_digit : (d : ℕ) → d < 10 → classify (first_digit + d) ≡ Digit d
 class_digit d h = grind (arith, nat_tests)
 
--- an operand that an exponent may follow, and a-factor that any sign may follow
+-- an operand that an exponent may follow, and one that any sign may follow
 data Atomic : State → Formula → Type 0 where
   a_digits : {n : ℕ} → Atomic (in_number n) (constant n)
   a_whole : {f : Formula} → Atomic (past_atom f) f

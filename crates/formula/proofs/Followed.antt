@@ -4,10 +4,10 @@ use Rattle.std.proofs.lemmas.Bool.Decides.{nat_tests}
 use Rattle.formula.specs.Limits.{max_open}
 use Rattle.formula.specs.declared.record.Record.{Record}
 use Rattle.formula.specs.declared.record.Record.TheVariants.{Negation}
-use Rattle.formula.specs.declared.state.State.{State as Code-state}
+use Rattle.formula.specs.declared.state.State.{State as CodeState}
 use Rattle.formula.specs.declared.state.State.TheVariants.{Operand, Number, Atom, Caret, Exponent, Power}
 use Rattle.formula.specs.declared.state.Pending.TheVariants.{First, Plus, Minus}
-use Rattle.formula.specs.declared.state.Level.{Level as Code-level}
+use Rattle.formula.specs.declared.state.Level.{Level as CodeLevel}
 use Rattle.formula.specs.declared.tape.Tape.{Tape}
 use Rattle.formula.specs.declared.reader.Reader.{Reader}
 use Rattle.formula.specs.Tapes as T
@@ -60,7 +60,7 @@ termed_is st f (level a p m) ls v =
 wholed_is : (st : State) (f : Formula) (l : Level) (ls : List Level) → operand_of st ≡ Some f → wholed (past_state (past_levels (l ∷ ls)) st) (code_state st) (frame (past_levels ls) l) ≡ put (past_levels ls) (formula_with l f)
 wholed_is st f (level a p m) ls v = ap (λ x. T.added x (pending (past_levels ls) a)) (termed_is st f (level a p m) ls v) ∙ added_is a (multiplied p (negated m f)) (past_levels ls)
 
--- the tape after a term is close-move, and the number of its last record
+-- the tape after a term is closed, and the number of its last record
 after_term : (st : State) (f : Formula) (l : Level) (ls : List Level) (x : Reader) (t : Tape) → operand_of st ≡ Some f → Follows st l ls x → Adds x.tape t (λ e. termed e x.state x.level) → Wrote t (put (past_terms (past_levels ls) (terms_of l)) (term_with l f))
 after_term st f l ls x t v w more =
     subst (Wrote t) ((λ i. termed (past_state (past_levels (l ∷ ls)) st) (w.state_is i) (w.level_is i)) ∙ termed_is st f l ls v) (more _ w.wrote)
@@ -111,7 +111,7 @@ follow_less st f l ls x t n v w more e =
       wrote = after;
     }
 
-pub follow_close : (st : State) (f : Formula) (l : Level) (ls : List Level) (x : Reader) (t : Tape) (d : Code-level) → 0 < x.depth → operand_of st ≡ Some f → Follows st l ls x → Adds x.tape t (λ e. wholed e x.state x.level) → Stepped (close_move (Some f) l ls) true (record { state = Atom; level = get_or x.outer (x.depth - 1) d; outer = x.outer; depth = x.depth - 1; tape = t })
+pub follow_close : (st : State) (f : Formula) (l : Level) (ls : List Level) (x : Reader) (t : Tape) (d : CodeLevel) → 0 < x.depth → operand_of st ≡ Some f → Follows st l ls x → Adds x.tape t (λ e. wholed e x.state x.level) → Stepped (close_move (Some f) l ls) true (record { state = Atom; level = get_or x.outer (x.depth - 1) d; outer = x.outer; depth = x.depth - 1; tape = t })
 follow_close st f l [] x t d pos v w more = absurd (omega (arith, w.depth_is))
 follow_close st f l (m ∷ ls) x t d pos v w more =
     let at : x.depth - 1 ≡ length ls = omega (arith, w.depth_is) in (
@@ -128,7 +128,7 @@ follow_close st f l (m ∷ ls) x t d pos v w more =
     )
 
 -- below the place of a write the stack is as it was
-stacked_set : (ls : List Level) (xs : List Code-level) (k : ℕ) (y : Code-level) → length ls ≤ k → Stacked ls xs → Stacked ls (set xs k y)
+stacked_set : (ls : List Level) (xs : List CodeLevel) (k : ℕ) (y : CodeLevel) → length ls ≤ k → Stacked ls xs → Stacked ls (set xs k y)
 stacked_set [] xs k y h s = tt
 stacked_set (l ∷ ls) xs k y h s =
     let ne : length ls ≢ k = omega arith in
@@ -170,7 +170,7 @@ follow_finish (past_caret f) l [] x t a b d w more = absurd (b w.state_is)
 follow_finish (in_exponent f k) l [] x t a b d w more = (refl, after_sum (in_exponent f k) _ l [] x t refl w more)
 follow_finish (past_power f) l [] x t a b d w more = (refl, after_sum (past_power f) _ l [] x t refl w more)
 
-reached_after : (state : Code-state) (f : Formula) (e : List Record) → past_state e (reached state f) ≡ put e f
+reached_after : (state : CodeState) (f : Formula) (e : List Record) → past_state e (reached state f) ≡ put e f
 reached_after Operand f e = refl
 reached_after (Number n) f e = refl
 reached_after Atom f e = refl
@@ -178,7 +178,7 @@ reached_after Caret f e = refl
 reached_after (Exponent k) f e = refl
 reached_after Power f e = refl
 
-pub follow_settle : (st : State) (l : Level) (ls : List Level) (x : Reader) (t : Tape) (state : Code-state) → ((f : Formula) → code_state (reached state f) ≡ state) → Follows st l ls x → Adds x.tape t (λ e. settled e x.state) → Settles (operand_of st) (reached state) l ls true (record { state = state; level = x.level; outer = x.outer; depth = x.depth; tape = t })
+pub follow_settle : (st : State) (l : Level) (ls : List Level) (x : Reader) (t : Tape) (state : CodeState) → ((f : Formula) → code_state (reached state f) ≡ state) → Follows st l ls x → Adds x.tape t (λ e. settled e x.state) → Settles (operand_of st) (reached state) l ls true (record { state = state; level = x.level; outer = x.outer; depth = x.depth; tape = t })
 follow_settle st l ls x t state is w more = go (operand_of st) refl
   where
     go : (o : Option Formula) → operand_of st ≡ o → Settles o (reached state) l ls true (record { state = state; level = x.level; outer = x.outer; depth = x.depth; tape = t })

@@ -59,7 +59,7 @@ breaks text i x y r h s = go (move (classify (get_or text i 0)) r.st r.l r.ls) (
     }
     go (Some (config st l ls)) e s = let z : ◌≡◌ {A = ℕ} 0 1 = cc in absurd (omega arith)
 
--- at the last-number of the text: the machine has read it all
+-- at the end of the text: the machine has read it all
 all_walked : (text : List ℕ) (i : ℕ) (x : Reader) (r : Reading text i x) → length text ≤ i → walk (Some start) text ≡ Some (config r.st r.l r.ls)
 all_walked text i x r h = ap (walk (Some start)) (sym (take_all i text h)) ∙ r.walked
 

@@ -1,4 +1,4 @@
--- What the machine reads is spelled: space-after each byte, the text so far is a formula as far as it goes.
+-- What the machine reads is spelled: after each byte, the text so far is a formula as far as it goes.
 use Rattle.std.proofs.Common.{◌≡◌, ℕ, zero, suc, ◌+◌, ◌*◌, ◌^◌, ◌<◌, ◌≤◌, Bool, true, false, ◌&&◌, ltb, leb, List, [], ◌∷◌, length, Some, None, Option, refl, ap, ◌∙◌, subst, arith}
 use Rattle.std.proofs.lemmas.Bool.Decides.{nat_tests}
 use Rattle.formula.specs.Signs.{sign_space, sign_plus, sign_minus, sign_times, sign_caret, sign_open, sign_close, first_letter, first_digit}
@@ -20,7 +20,7 @@ use Rattle.formula.specs.Machine.Level.{level}
 use Rattle.formula.specs.Machine.State.{awaiting, in_number, past_atom, past_caret, in_exponent, past_power}
 use Rattle.formula.specs.Machine.Config.{config}
 
--- where a formula, a term space-after what waits for it, or a factor space-after what waits for it, is to begin
+-- where a formula, a term after what waits for it, or a factor after what waits for it, is to begin
 data Stage : Type 0 where
   at_formula : Stage
   at_term : Terms → Stage
@@ -218,7 +218,7 @@ finishes s (Some (config st l ls)) h = finished s l ls (operand_of st) (settled 
 pub sound : (f : Formula) (s : List ℕ) → finish (walk (Some start) s) ≡ Some f → Spells f s
 sound f s e = subst (All (λ f. Spells f s)) e (finishes s (walk (Some start) s) (sound_walk s (Some start) s (s_wait (factor_at (term_at top)))))
 
--- every configuration can be brought to an last-number
+-- every configuration can be brought to an end
 closers : List Level → List ℕ
 closers [] = []
 closers (l ∷ ls) = sign_close ∷ closers ls

@@ -3,11 +3,11 @@ use Rattle.std.specs.Prelude.{◌≡◌, ℕ, ◌-◌, ◌≤◌, Bool, true, fa
 use Rattle.formula.specs.Limits.{max_open}
 use Rattle.formula.specs.declared.record.Record.{Record}
 use Rattle.formula.specs.declared.record.Record.TheVariants.{Constant, Letter, Negation}
-use Rattle.formula.specs.declared.state.State.{State as Code-state}
+use Rattle.formula.specs.declared.state.State.{State as CodeState}
 use Rattle.formula.specs.declared.state.State.TheVariants.{Operand, Number, Atom, Caret, Exponent, Power}
 use Rattle.formula.specs.declared.state.Pending.{Pending}
 use Rattle.formula.specs.declared.state.Pending.TheVariants.{First, Plus, Minus}
-use Rattle.formula.specs.declared.state.Level.{Level as Code-level}
+use Rattle.formula.specs.declared.state.Level.{Level as CodeLevel}
 use Rattle.formula.specs.declared.class.Class.{Class}
 use Rattle.formula.specs.declared.reader.Reader.{Reader}
 use Rattle.formula.specs.Tapes.{Wrote, cap, settled, multiplied, added}
@@ -35,7 +35,7 @@ put e (negation f) = put e f ++ Negation (last_number (put e f)) ∷ []
 put e (power f k) = settled (put e f) (Exponent k)
 
 -- the reader's state for one of the automaton
-abbrev pub code_state : State → Code-state
+abbrev pub code_state : State → CodeState
 code_state awaiting = Operand
 code_state (in_number n) = Number n
 code_state (past_atom f) = Atom
@@ -84,13 +84,13 @@ waiting e no_factors = None
 waiting e (times f) = Some (last_number (put e f))
 
 -- the reader's form of a level, behind the records e
-abbrev pub frame : List Record → Level → Code-level
+abbrev pub frame : List Record → Level → CodeLevel
 frame e (level a p m) = record { sum = pending e a; product = waiting (past_terms e a) p; negations = m }
 
 -- the reader's array holds the outer levels, the outermost first
-abbrev pub Stacked : List Level → List Code-level → Type 0
+abbrev pub Stacked : List Level → List CodeLevel → Type 0
 Stacked [] xs = Unit {0}
-Stacked (l ∷ ls) xs = ((d : Code-level) → slice_index_or xs (length ls) d ≡ frame (past_levels ls) l) × Stacked ls xs
+Stacked (l ∷ ls) xs = ((d : CodeLevel) → slice_index_or xs (length ls) d ≡ frame (past_levels ls) l) × Stacked ls xs
 
 -- the reader x stands where the automaton does, and its tape holds the records so far
 pub record Follows (st : State) (l : Level) (ls : List Level) (x : Reader) : Type 0 where
@@ -118,7 +118,7 @@ Finished None r x = r ≡ false
 Finished (Some f) r x = (r ≡ true) × Wrote x.tape (put [] f)
 
 -- the state that holds an operand which is written
-abbrev pub reached : Code-state → Formula → State
+abbrev pub reached : CodeState → Formula → State
 reached Operand f = past_power f
 reached (Number n) f = past_power f
 reached Atom f = past_atom f
@@ -141,11 +141,11 @@ abbrev pub MovesPast : (Option Formula → Level → List Level → Option Confi
 MovesPast m x r y = (s : State) (f : Formula) (l : Level) (ls : List Level) → operand_of s ≡ Some f → Follows s l ls x → Stepped (m (Some f) l ls) r y
 
 -- only the state changes, to `state`, between states whose records are the same
-abbrev pub Turns : Code-state → Reader → Bool → Reader → Type 0
+abbrev pub Turns : CodeState → Reader → Bool → Reader → Type 0
 Turns state x r y = (r ≡ true) × ((s t : State) (l : Level) (ls : List Level) → code_state t ≡ state → past_state (past_levels (l ∷ ls)) s ≡ past_state (past_levels (l ∷ ls)) t → Follows s l ls x → Follows t l ls y)
 
 -- the operand that was read is written, and `state` is next
-abbrev pub WritesOperand : Code-state → Reader → Bool → Reader → Type 0
+abbrev pub WritesOperand : CodeState → Reader → Bool → Reader → Type 0
 WritesOperand state x r y = (s : State) (l : Level) (ls : List Level) → Follows s l ls x → Settles (operand_of s) (reached state) l ls r y
 
 -- the text may end exactly where the automaton ends with a formula, whose records are then written

@@ -3,7 +3,7 @@ use Rattle.std.proofs.Common.{◌≡◌, ◌+◌, ◌*◌, ◌≤◌, Bool, true
 use mathlib.Core.Bool.{false≢true}
 use Rattle.std.proofs.lemmas.Bool.{eqb-true}
 use Rattle.domain.specs.declared.number.Number.{Number}
-use Rattle.domain.specs.Numbers.{number, is_zero as zero-code}
+use Rattle.domain.specs.Numbers.{number, is_zero as zero_code}
 use Rattle.domain.specs.Ring.{Laws}
 use Rattle.domain.specs.Model.{Model, Sound, Factors, Scales}
 use Rattle.polynomial.specs.Elements.{is_zero, factor}
@@ -24,10 +24,10 @@ pub record Facts {E : Type 0} (M : Model E) : Type 0 where
       → factor M (M.ring.mul k a) (M.ring.mul k b) ≡ (M.ring.mul k (factor M a b).0, (factor M a b).1, (factor M a b).2)
 
 -- the number 0 is the only one that passes its test
-zero_only : (n : Number) → zero-code n ≡ true → n ≡ number (pos 0)
+zero_only : (n : Number) → zero_code n ≡ true → n ≡ number (pos 0)
 zero_only n e = go n.int e
   where
-    go : (z : ℤ) → zero-code (number z) ≡ true → number z ≡ number (pos 0)
+    go : (z : ℤ) → zero_code (number z) ≡ true → number z ≡ number (pos 0)
     go (pos n) e = ap (λ m. number (pos m)) (eqb-true n 0 e)
     go (negsuc n) e = absurd (false≢true e)
 
@@ -45,23 +45,23 @@ module _ {E : Type 0} {M : Model E} (S : Sound M) where
 
   zero_is : is_zero M M.ring.zero ≡ true
   unfolding is_zero
-  zero_is = ap₂ (λ s n. cond (eqb s 0) (zero-code n) false) size_zero code_zero
+  zero_is = ap₂ (λ s n. cond (eqb s 0) (zero_code n) false) size_zero code_zero
 
   is_zero_only : (a : E) → is_zero M a ≡ true → a ≡ M.ring.zero
   unfolding is_zero
   is_zero_only a e =
-      let parts = both (eqb (M.size a) 0) (zero-code (M.code a)) e in
+      let parts = both (eqb (M.size a) 0) (zero_code (M.code a)) e in
       let s = eqb-true (M.size a) 0 parts.0 in
       sym (S.codes.has a (omega (arith, s))).1 ∙ (ap M.value (zero_only (M.code a) parts.1) ∙ S.codes.zero.1)
 
   -- at the values of codes the test and the factor are those of the codes
-  pub is_zero_code : (n : Number) → M.coded n ≡ true → is_zero M (M.value n) ≡ zero-code n
-  is_zero_code n c = go (is_zero M (M.value n)) (zero-code n) refl refl
+  pub is_zero_code : (n : Number) → M.coded n ≡ true → is_zero M (M.value n) ≡ zero_code n
+  is_zero_code n c = go (is_zero M (M.value n)) (zero_code n) refl refl
     where
-      go : (s t : Bool) → is_zero M (M.value n) ≡ s → zero-code n ≡ t → s ≡ t
+      go : (s t : Bool) → is_zero M (M.value n) ≡ s → zero_code n ≡ t → s ≡ t
       go true true e f = refl
       go false false e f = refl
-      go true false e f = ap zero-code (sym (ap M.code (is_zero_only (M.value n) e) ∙ code_zero) ∙ S.codes.only n c) ∙ f
+      go true false e f = ap zero_code (sym (ap M.code (is_zero_only (M.value n) e) ∙ code_zero) ∙ S.codes.only n c) ∙ f
       go false true e f = sym e ∙ (ap (is_zero M) (ap M.value (zero_only n f) ∙ S.codes.zero.1) ∙ zero_is)
 
   -- an element of a size within the limit, by its code

@@ -77,14 +77,14 @@ module _ {E : Type 0} where
       let f = O.entry in
       let nl : (t : Tree E) → Among t T → t ≢ leaf = λ t i z. let Q = origin es l t i in let w : ◌≡◌ {A = ℕ} 0 1 = cc Q.is in omega arith in
       let q = O.is in
-      let e-lo : look T e.lo ≡ look T f.lo = cc in
-      let e-hi : look T e.hi ≡ look T f.hi = cc in
-      let e-letter : e.letter ≡ f.letter = cc in
-      let e-p : e.p ≡ f.p = cc in
-      let e-q : e.q ≡ f.q = cc in
-      let lo = look_inj T d nl e.lo f.lo g.lo O.edges.lo e-lo in
-      let hi = look_inj T d nl e.hi f.hi g.hi O.edges.hi e-hi in
-      among_eq e f es (λ k. record { letter = e-letter k; p = e-p k; lo = lo k; q = e-q k; hi = hi k }) O.here
+      let e_lo : look T e.lo ≡ look T f.lo = cc in
+      let e_hi : look T e.hi ≡ look T f.hi = cc in
+      let e_letter : e.letter ≡ f.letter = cc in
+      let e_p : e.p ≡ f.p = cc in
+      let e_q : e.q ≡ f.q = cc in
+      let lo = look_inj T d nl e.lo f.lo g.lo O.edges.lo e_lo in
+      let hi = look_inj T d nl e.hi f.hi g.hi O.edges.hi e_hi in
+      among_eq e f es (λ k. record { letter = e_letter k; p = e_p k; lo = lo k; q = e_q k; hi = hi k }) O.here
 
   -- so what the table of entries lacks is a new tree
   pub grown_entry : (es : List (Entry E)) → Linked 0 es → Distinct (trees es) → (e : Entry E) → Edges (length (trees es)) e → (Among e es → ⊥) → Grown es (es ++ (e ∷ [])) (λ t. t ≡ stands (trees es) e)

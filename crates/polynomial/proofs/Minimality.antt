@@ -15,7 +15,7 @@ use Rattle.polynomial.proofs.Rings.{zero-add, mul-zero, zero-mul, cancel}
 use Rattle.polynomial.proofs.SeriesRing.{poly_laws}
 use Rattle.polynomial.proofs.Down.{down, constant-mul, constant-zero, torsion}
 use Rattle.polynomial.proofs.LetterRules.{Ordered, reduced_ordered, free_value, down-value, split}
-use Rattle.polynomial.proofs.Canonicity.{size_pos, nonzero, differ, canonical, below_lawful, beside_lawful, mass as mass-nonzero}
+use Rattle.polynomial.proofs.Canonicity.{size_pos, nonzero, differ, canonical, below_lawful, beside_lawful, mass as mass_nonzero}
 use Rattle.polynomial.proofs.TreeMasses.{Short, short_tree, mass-value, mass_const, total-zero}
 use Rattle.polynomial.proofs.References.{found}
 use Rattle.polynomial.proofs.Pigeonhole.{among_left, among_right, among_either, fewer}
@@ -111,7 +111,7 @@ module _ {E : Type 0} (M : Model E) (S : Facts M) (k : ℕ) where
       (cancel PL (P.mul (letter R k x) (value R k (R.mul u q) n)) (value R k (R.mul u p) m) (value R k (R.mul c p') a) (cc (split S.laws k x p m q n u, split S.laws k x p' a q' b c, e, en)), en)
 
   pub absent : (x : ℕ) (p : E) (m : Tree E) (q : E) (n : Tree E) → Reduced M k (node x p m q n) → (u c : E) → Lawful M u (node x p m q n) → (r : Tree E) → Ordered k r → After x r → value R k u (node x p m q n) ≡ value R k c r → ⊥
-  absent x p m q n d u c l r o a e = differ M S k x p m q n r d o a u c (mass-nonzero M S k x p m q n d u l) e
+  absent x p m q n d u c l r o a e = differ M S k x p m q n r d o a u c (mass_nonzero M S k x p m q n d u l) e
 
   -- each tree in t is seen at some tree in r
   cover : (r : Tree E) → Ordered k r → (t : Tree E) → Reduced M k t → (u c : E) → Lawful M u t → value R k u t ≡ value R k c r → (s : Tree E) → Inside s t → (r' : Tree E) × Inside r' r × Seen s r'
@@ -120,16 +120,16 @@ module _ {E : Type 0} (M : Model E) (S : Facts M) (k : ℕ) where
   cover (node y p' a q' b) o leaf d u c l e s i = absurd i
   cover (node y p' a q' b) o (node x p m q n) d u c l e s i =
       let t = node x p m q n in
-      let o-t = reduced_ordered M k t d in
+      let o_t = reduced_ordered M k t d in
       elim (dec_lt x y) [
         | yes h ↦ absurd (absent x p m q n d u c l (node y p' a q' b) o h e)
         | no h ↦ elim (dec_lt y x) [
           | yes g ↦
-              let (r', j, w) = cover a o.3 t d u (R.mul c p') l (past t o-t u c y p' a q' b o g e) s i in
+              let (r', j, w) = cover a o.3 t d u (R.mul c p') l (past t o_t u c y p' a q' b o g e) s i in
               (r', inr (inl j), w)
           | no g ↦
               let xy : x ≡ y = omega arith in
-              let parts = subst (λ z. Ordered k (node z p' a q' b) → value R k u t ≡ value R k c (node z p' a q' b) → (value R k (R.mul u p) m ≡ value R k (R.mul c p') a) × (value R k (R.mul u q) n ≡ value R k (R.mul c q') b)) xy (both x p m q n p' a q' b u c o-t) o e in
+              let parts = subst (λ z. Ordered k (node z p' a q' b) → value R k u t ≡ value R k c (node z p' a q' b) → (value R k (R.mul u p) m ≡ value R k (R.mul c p') a) × (value R k (R.mul u q) n ≡ value R k (R.mul c q') b)) xy (both x p m q n p' a q' b u c o_t) o e in
               elim i [
                 | inl h ↦ (
                   node y p' a q' b,

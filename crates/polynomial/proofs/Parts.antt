@@ -12,7 +12,7 @@ use Rattle.polynomial.proofs.Rings.{zero-add, mul-zero, zero-mul, cancel}
 use Rattle.polynomial.proofs.SeriesRing.{poly_laws}
 use Rattle.polynomial.proofs.Down.{down, down-add, down_other, down_same, constant-zero}
 use Rattle.polynomial.proofs.LetterRules.{after_from, after_le, reduced_ordered, free_value, down-value, split}
-use Rattle.polynomial.proofs.Canonicity.{canonical, high_nonzero, below_lawful, beside_lawful, mass as mass-nonzero}
+use Rattle.polynomial.proofs.Canonicity.{canonical, high_nonzero, below_lawful, beside_lawful, mass as mass_nonzero}
 use Rattle.polynomial.proofs.Minimality.{inside_node}
 
 inside_whole : {E : Type 0} (s t : Tree E) → s ≢ leaf → s ≡ t → Inside s t
@@ -49,7 +49,7 @@ module _ {E : Type 0} (M : Model E) (S : Facts M) (k : ℕ) where
   }
 
   pub down_nonzero : (x : ℕ) (p : E) (m : Tree E) (q : E) (n : Tree E) → Reduced M k (node x p m q n) → (w : E) → Lawful M w (node x p m q n) → down R k x (value R k w (node x p m q n)) ≢ P.zero
-  down_nonzero x p m q n r w l = high_nonzero M S k x p m q n r w (mass-nonzero M S k x p m q n r w l)
+  down_nonzero x p m q n r w l = high_nonzero M S k x p m q n r w (mass_nonzero M S k x p m q n r w l)
 
   module _ (x : ℕ) (f a h : Polynomial E k) (C : Splits R k x f a h) where
     -- the two parts are settled by f

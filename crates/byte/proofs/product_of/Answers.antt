@@ -8,6 +8,6 @@ returns-then-a-eq0 c = search (rules, zero-times, times_zero)
 
 pub returns : goal.returns
 returns c =
-    let of-a = c.logarithm.ensures.of_other (search rules) in
-    let of-b = c.logarithm-2.ensures.of_other (search rules) in
-    c.power.ensures ∙ product_by c.args.a c.args.b c.logarithm.result c.logarithm-2.result of-a of-b
+    let of_a = c.logarithm.ensures.of_other (search rules) in
+    let of_b = c.logarithm-2.ensures.of_other (search rules) in
+    c.power.ensures ∙ product_by c.args.a c.args.b c.logarithm.result c.logarithm-2.result of_a of_b
