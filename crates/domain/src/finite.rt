@@ -2,7 +2,6 @@
 ghost use Rattle.std.specs.Prelude.{◌≡◌};
 ghost use Rattle.domain.specs.Fields.{domain_of};
 ghost use Rattle.domain.specs.FieldDomains.{field_sound};
-ghost use Rattle.std.proofs.Common.{rules};
 
 use crate::arithmetic::Arithmetic;
 use crate::domain::Domain;
@@ -65,7 +64,7 @@ impl<A: Arithmetic> Domain for Finite<A> {
 impl<A: Arithmetic> Field for Finite<A> {
     ghost reciprocal = { λ d. (A.Arithmetic.meaning d.arithmetic).inverse };
 
-    ghost undoes = { Prim.search rules };
+    ghost undoes = { λ d. (A.Arithmetic.sound d.arithmetic).inverts };
 
     fn inverse(&self, a: Number) -> Result<Number, Fault> {
         self.arithmetic.inverse(a)

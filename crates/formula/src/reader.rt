@@ -4,7 +4,7 @@ ghost use Rattle.formula.specs.Follow.{Follows, Moves, MovesFrom, MovesPast, Tur
 ghost use Rattle.formula.specs.Formulas.{Formula};
 ghost use Rattle.formula.specs.Limits.{max_open};
 ghost use Rattle.formula.specs.Machine.State.{awaiting, in_number, past_caret, in_exponent};
-ghost use Rattle.formula.specs.Machine.Terms.{plus as then-plus, minus as then-minus};
+ghost use Rattle.formula.specs.Machine.Terms.{plus as then_plus, minus as then_minus};
 ghost use Rattle.formula.specs.Machine.{star_move, sum_move, close_move, open_move, letter_move, minus_move, digit_move, empty};
 
 use crate::class::Class;
@@ -116,7 +116,7 @@ impl Reader {
     }
 
     fn plus(&mut self) -> bool
-        ensures { MovesPast (λ o. sum_move o then-plus) self.old result self.new }
+        ensures { MovesPast (λ o. sum_move o then_plus) self.old result self.new }
     {
         self.tape.close_sum(self.state, self.level);
         self.level = Level {
@@ -129,7 +129,7 @@ impl Reader {
     }
 
     fn minus(&mut self) -> bool
-        ensures { MovesPast (λ o. sum_move o then-minus) self.old result self.new }
+        ensures { MovesPast (λ o. sum_move o then_minus) self.old result self.new }
     {
         self.tape.close_sum(self.state, self.level);
         self.level = Level {

@@ -87,7 +87,7 @@ module _ {E : Type 0} (M : Model E) (S : Facts M) where
     Agrees t u =
         Reduced M k t → Reduced M k u → (v w : E) → Lawful M v t → Lawful M w u → value M.ring k v t ≡ value M.ring k w u → (v ≡ w) × (t ≡ u)
 
-    module _ (x : ℕ) (p : E) (m : Tree E) (q : E) (n : Tree E) (p' : E) (m' : Tree E) (q' : E) (n' : Tree E) (on-m : Agrees m m') (on-n : Agrees n n') where
+    module _ (x : ℕ) (p : E) (m : Tree E) (q : E) (n : Tree E) (p' : E) (m' : Tree E) (q' : E) (n' : Tree E) (on_m : Agrees m m') (on_n : Agrees n n') where
       same_letter : Agrees (node x p m q n) (node x p' m' q' n')
       same_letter r s v w lv lw e =
           let R = M.ring in
@@ -96,8 +96,8 @@ module _ {E : Type 0} (M : Model E) (S : Facts M) where
           let em : value R k (R.mul v p) m ≡ value R k (R.mul w p') m' =
           cancel PL (P.mul (letter R k x) (value R k (R.mul v q) n)) (value R k (R.mul v p) m) (value R k (R.mul w p') m')
           (cc (split S.laws k x p m q n v, split S.laws k x p' m' q' n' w, e, en)) in
-          let hm = on-m r.below s.below (R.mul v p) (R.mul w p') (below_lawful x p m q n r v lv) (below_lawful x p' m' q' n' s w lw) em in
-          let hn = on-n r.beside s.beside (R.mul v q) (R.mul w q') (beside_lawful x p m q n r v lv) (beside_lawful x p' m' q' n' s w lw) en in
+          let hm = on_m r.below s.below (R.mul v p) (R.mul w p') (below_lawful x p m q n r v lv) (below_lawful x p' m' q' n' s w lw) em in
+          let hn = on_n r.beside s.beside (R.mul v q) (R.mul w q') (beside_lawful x p m q n r v lv) (beside_lawful x p' m' q' n' s w lw) en in
           let f = sym (refactored x p m q n r v lv) ∙ (ap₂ (factor M) hm.0 hn.0 ∙ refactored x p' m' q' n' s w lw) in
           let ep : p ≡ p' = ap (λ t. t.1) f in
           let eq : q ≡ q' = ap (λ t. t.2) f in

@@ -66,12 +66,12 @@ module _ {E : Type 0} (capacity : ℕ) where
     absurd_true : {A : Type 0} → false ≡ true → A
     absurd_true e = absurd (true≢false (sym e))
 
-    module _ (x : ℕ) (p : E) (m : Tree E) (q : E) (n : Tree E) (es₀ es₁ es₂ : List (Entry E)) (lo hi : ℕ) (A : Outcome capacity es₀ es₁ (λ s. Inside s m) true) (B : Outcome capacity es₁ es₂ (λ s. Inside s n) true) (at-lo : look (trees es₂) lo ≡ m) (at-hi : look (trees es₂) hi ≡ n) where
+    module _ (x : ℕ) (p : E) (m : Tree E) (q : E) (n : Tree E) (es₀ es₁ es₂ : List (Entry E)) (lo hi : ℕ) (A : Outcome capacity es₀ es₁ (λ s. Inside s m) true) (B : Outcome capacity es₁ es₂ (λ s. Inside s n) true) (at_lo : look (trees es₂) lo ≡ m) (at_hi : look (trees es₂) hi ≡ n) where
       abbrev e : Entry E
       e = record { letter = x; p = p; lo = lo; q = q; hi = hi }
 
       is_node : stands (trees es₂) e ≡ node x p m q n
-      is_node = ap₂ (λ a b. node x p a q b) at-lo at-hi
+      is_node = ap₂ (λ a b. node x p a q b) at_lo at_hi
 
       last : Done es₀ (node x p m q n)
       last = go (among_dec (tree_dec dec) (node x p m q n) (trees es₂)) (dec_lt (length es₂) capacity)
