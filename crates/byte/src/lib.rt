@@ -5,7 +5,6 @@ ghost use Rattle.std.specs.Prelude.{◌≡◌, ◌<◌, pos, ◌≢◌};
 ghost use Prim.Native.Nat.{Fin};
 ghost use Rattle.byte.specs.Bytes.{bytes, times, three_to, inverse_byte, Logarithm};
 ghost use Rattle.domain.specs.Numbers.{number as numbered, held};
-ghost use Rattle.byte.specs.Tables.{Table};
 ghost use Rattle.byte.specs.ByteLaws.{bytes_laws};
 
 use domain::arithmetic::Arithmetic;
@@ -67,33 +66,19 @@ const LOGARITHMS: &[u8; 256] = b"\
     \x44\x11\x92\xd9\x23\x20\x2e\x89\xb4\x7c\xb8\x26\x77\x99\xe3\xa5\
     \x67\x4a\xed\xde\xc5\x31\xfe\x18\x0d\x63\x8c\x80\xc0\xf7\x70\x07";
 
-// The list with its rule.
-fn powers() -> &'static [u8; 510]
-    ensures { Table 510 (λ i a. a ≡ three_to i) result.now }
-{
-    POWERS
-}
-
-// The list with its rule.
-fn logarithms() -> &'static [u8; 256]
-    ensures { Table 256 Logarithm result.now }
-{
-    LOGARITHMS
-}
-
 // 3 to the power i.
 fn power(i: usize) -> u8
     requires { i < 510 }
     ensures { result ≡ three_to i }
 {
-    powers()[i]
+    POWERS[i]
 }
 
 // The exponent of a as a power of 3, or 0 if a is 0.
 fn logarithm(a: u8) -> usize
     ensures { Logarithm a result }
 {
-    usize::from(logarithms()[usize::from(a)])
+    usize::from(LOGARITHMS[usize::from(a)])
 }
 
 // The exponents of two factors add.
@@ -118,14 +103,7 @@ fn inverse_of(a: u8) -> u8
 fn byte_of(a: Number) -> Result<u8, Fault>
     ensures { result ≡ held 256 a }
 {
-    let n = a.below(256)?;
-    Ok(n as u8)
-}
-
-fn code_of(a: u8) -> Number
-    ensures { result ≡ numbered (pos a) }
-{
-    Number::of(u16::from(a))
+    u8::try_from(a.int).map_err(|_| a.no_code())
 }
 
 // The arithmetic of bytes.
@@ -146,19 +124,19 @@ impl Arithmetic for Bytes {
     // Each byte is its own opposite.
     fn negation(&self, a: Number) -> Result<Number, Fault> {
         let x = byte_of(a)?;
-        Ok(code_of(x))
+        Ok(Number::from(x))
     }
 
     fn sum(&self, a: Number, b: Number) -> Result<Number, Fault> {
         let x = byte_of(a)?;
         let y = byte_of(b)?;
-        Ok(code_of(x ^ y))
+        Ok(Number::from(x ^ y))
     }
 
     fn product(&self, a: Number, b: Number) -> Result<Number, Fault> {
         let x = byte_of(a)?;
         let y = byte_of(b)?;
-        Ok(code_of(product_of(x, y)))
+        Ok(Number::from(product_of(x, y)))
     }
 
     fn inverse(&self, a: Number) -> Result<Number, Fault> {
@@ -166,7 +144,7 @@ impl Arithmetic for Bytes {
         if x == 0 {
             return Err(a.no_code());
         }
-        Ok(code_of(inverse_of(x)))
+        Ok(Number::from(inverse_of(x)))
     }
 }
 

@@ -1,6 +1,7 @@
 pub mod Answers
 pub mod Faults
 pub mod Fields
+pub mod Lines
 pub mod Model
 pub mod Numbers
 pub mod Remainders

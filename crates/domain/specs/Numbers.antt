@@ -1,5 +1,5 @@
 -- Whole numbers as callers hold them.
-use Rattle.std.specs.Prelude.{ℕ, Bool, false, cond, ℤ, pos, negsuc, Ok, Err, Result, ◌==◌, nat_lt, unsigned_abs}
+use Rattle.std.specs.Prelude.{ℕ, Bool, false, cond, ℤ, pos, negsuc, Ok, Err, Result, ◌==◌, nat_le, nat_lt, unsigned_abs}
 use Rattle.domain.specs.declared.fault.Fault.{Fault}
 use Rattle.domain.specs.declared.fault.Fault.TheVariants.{NoCode}
 use Rattle.domain.specs.declared.number.Number.{Number}
@@ -28,3 +28,7 @@ no_code a = NoCode a.int
 
 abbrev pub held : ℕ → Number → Result ℕ Fault
 held m a = cond (below m a) (Ok (unsigned_abs a.int)) (Err (no_code a))
+
+-- a natural number, or its refusal where it is too large to be a code of any domain
+abbrev pub natural : ℕ → Result Number Fault
+natural n = cond (nat_le n 2147483647) (Ok (number (pos n))) (Err (NoCode (pos n)))

@@ -1,4 +1,5 @@
-// The arithmetic that the domain of a field is built from.
+// The arithmetic that the domain of a field is built from. Four of its methods are `Domain`'s too: with one trait below
+// both, `Finite` would hand these four on all the same, and the meaning that every contract names would be that trait's.
 ghost use Rattle.std.specs.Prelude.{◌≡◌};
 ghost use Rattle.domain.specs.Answers.{negated, added, multiplied, inverted};
 ghost use Rattle.domain.specs.Fields.{Field as FieldModel, FieldLaws, domain_of};

@@ -1,9 +1,11 @@
 // The refusals of every layer, each with the values that belong to it.
-ghost use Rattle.std.specs.Prelude.{◌≡◌};
+ghost use Rattle.std.specs.Prelude.{◌≡◌, Some};
 ghost use Rattle.domain.specs.Faults.{numbered};
+ghost use Rattle.domain.specs.Lines.{refusal};
 ghost use Rattle.domain.specs.declared.fault.Fault.TheVariants.{Memory};
 
 use std::alloc::{AllocError, AllocFailed};
+use std::fmt;
 
 #[derive(Clone, Copy, PartialEq, Eq, Debug)]
 pub enum Fault {
@@ -77,5 +79,18 @@ impl<T: Drop> From<AllocFailed<T>> for Fault {
 
     fn from(_e: AllocFailed<T>) -> Fault {
         Fault::from(AllocError)
+    }
+}
+
+// `refused 4`, with the place of a text that is no formula: `refused 11 3`.
+impl fmt::Display for Fault {
+    ghost output = { λ f. Some (refusal f) };
+
+    fn fmt<W: fmt::Write>(&self, f: &mut fmt::Formatter<W>) -> fmt::Result {
+        match (self, self.number()) {
+            (Fault::NoFormula { place }, Some(number)) => write!(f, "refused {number} {place}"),
+            (_, Some(number)) => write!(f, "refused {number}"),
+            (_, None) => write!(f, "out of memory"),
+        }
     }
 }

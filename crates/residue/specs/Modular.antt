@@ -1,24 +1,14 @@
 -- Arithmetic modulo suc p: the ring laws, and powers.
 use Rattle.std.specs.Prelude.{◌≡◌, ℕ, zero, suc, ◌+◌, ◌-◌, ◌*◌, ◌/◌, ◌%◌, ◌^◌, ◌<◌, Bool, true, false, cond, T, ◌==◌, ◌≢◌, refl}
-use Rattle.std.proofs.Common.{sym, ap, subst, ◌∙◌, arith, mod-eq_of_lt, mul_assoc, mul_comm, mul-add, add-mul, add_assoc, add_comm, add-zero, mul-one, pow-suc, eq-eqb, eqb→eq}
+use Rattle.std.proofs.Common.{sym, ap, subst, ◌∙◌, arith, mod-eq_of_lt, mul_assoc, mul_comm, mul-add, add_assoc, add_comm, add-zero, mul-one, pow-suc, eq-eqb, eqb→eq}
 use Rattle.std.proofs.lemmas.Bool.{false≢true}
 use native.Mathlib.Fin
-use Rattle.std.proofs.Math.Nat.{mod-add-mod, add-mod-mod, mod_self, mod-add-div, add-mul-mod_self_left, zero-mod, pow-zero}
+use Rattle.std.proofs.Math.Nat.{mod-add-mod, add-mod-mod, mod_self, zero-mod, pow-zero}
+use Rattle.std.proofs.lemmas.Nat.{mul-mod_first, mul-mod_second, mul-pow, pow-add, pow-mod}
 use Rattle.residue.specs.Residues.{modulo}
 use Rattle.domain.specs.Ring.{Laws}
 
 module _ (p : ℕ) where
-  -- a factor may be reduced first
-  pub mod_mul : (a b : ℕ) → (a % suc p) * b % suc p ≡ a * b % suc p
-  mod_mul a b =
-      let m = suc p in
-      sym (ap (λ (z : ℕ). z * b % m) (sym (mod-add-div a m))
-      ∙ (ap (λ (z : ℕ). z % m) (add-mul (a % m) (m * (a / m)) b ∙ ap (λ (z : ℕ). (a % m) * b + z) (mul_assoc m (a / m) b))
-      ∙ add-mul-mod_self_left ((a % m) * b) m ((a / m) * b)))
-
-  pub mul_mod : (a b : ℕ) → a * (b % suc p) % suc p ≡ a * b % suc p
-  mul_mod a b = ap (λ (z : ℕ). z % suc p) (mul_comm a (b % suc p)) ∙ (mod_mul b a ∙ ap (λ (z : ℕ). z % suc p) (mul_comm b a))
-
   full : (a : ℕ) → a < suc p → a + (suc p - a) ≡ suc p
   full a h = omega arith
 
@@ -28,28 +18,15 @@ module _ (p : ℕ) where
     add_comm = λ a b. Fin.val_path (ap (λ (z : ℕ). z % suc p) (add_comm a.0 b.0));
     add-zero = λ a. Fin.val_path (add-mod-mod a.0 0 (suc p) ∙ (ap (λ (z : ℕ). z % suc p) (add-zero a.0) ∙ mod-eq_of_lt a.1));
     add_neg = λ a. Fin.val_path (add-mod-mod a.0 (suc p - a.0) (suc p) ∙ (ap (λ (z : ℕ). z % suc p) (full a.0 a.1) ∙ (mod_self (suc p) ∙ sym (zero-mod (suc p)))));
-    mul_assoc = λ a b c. Fin.val_path (mod_mul (a.0 * b.0) c.0 ∙ (ap (λ (z : ℕ). z % suc p) (mul_assoc a.0 b.0 c.0) ∙ sym (mul_mod a.0 (b.0 * c.0))));
+    mul_assoc = λ a b c. Fin.val_path (mul-mod_first (a.0 * b.0) c.0 (suc p) ∙ (ap (λ (z : ℕ). z % suc p) (mul_assoc a.0 b.0 c.0) ∙ sym (mul-mod_second a.0 (b.0 * c.0) (suc p))));
     mul_comm = λ a b. Fin.val_path (ap (λ (z : ℕ). z % suc p) (mul_comm a.0 b.0));
-    mul-one = λ a. Fin.val_path (mul_mod a.0 1 ∙ (ap (λ (z : ℕ). z % suc p) (mul-one a.0) ∙ mod-eq_of_lt a.1));
-    mul-add = λ a b c. Fin.val_path (mul_mod a.0 (b.0 + c.0) ∙ (ap (λ (z : ℕ). z % suc p) (mul-add a.0 b.0 c.0)
+    mul-one = λ a. Fin.val_path (mul-mod_second a.0 1 (suc p) ∙ (ap (λ (z : ℕ). z % suc p) (mul-one a.0) ∙ mod-eq_of_lt a.1));
+    mul-add = λ a b c. Fin.val_path (mul-mod_second a.0 (b.0 + c.0) (suc p) ∙ (ap (λ (z : ℕ). z % suc p) (mul-add a.0 b.0 c.0)
         ∙ sym (mod-add-mod (a.0 * b.0) (suc p) (a.0 * c.0 % suc p) ∙ add-mod-mod (a.0 * b.0) (a.0 * c.0) (suc p))));
   }
 
-  -- the base of a power may be reduced first
-  pub mod_pow : (a n : ℕ) → (a % suc p) ^ n % suc p ≡ a ^ n % suc p
-  mod_pow a zero = ap (λ (z : ℕ). z % suc p) (pow-zero (a % suc p) ∙ sym (pow-zero a))
-  mod_pow a (suc n) =
-      let m = suc p in
-      let r = a % m in
-      ap (λ (z : ℕ). z % m) (pow-suc r n)
-      ∙ (mul_mod (r ^ n) a
-      ∙ (sym (mod_mul (r ^ n) a) ∙ (ap (λ (z : ℕ). z * a % m) (mod_pow a n) ∙ (mod_mul (a ^ n) a ∙ ap (λ (z : ℕ). z % m) (sym (pow-suc a n))))))
-
 square_pow : (a n : ℕ) → (a * a) ^ n ≡ a ^ (n + n)
-square_pow a zero = pow-zero (a * a) ∙ sym (pow-zero a)
-square_pow a (suc n) =
-    let e : suc n + suc n ≡ suc (suc (n + n)) = omega arith in
-    cc (pow-suc (a * a) n, square_pow a n, ap (λ (k : ℕ). a ^ k) e, pow-suc a (suc (n + n)), pow-suc a (n + n), mul_assoc (a ^ (n + n)) a a)
+square_pow a n = mul-pow a a n ∙ sym (pow-add a n n)
 
 -- a to the power n modulo suc p by squares, in at most `steps` of them
 unfoldable pub squares : ℕ → ℕ → ℕ → ℕ → ℕ
@@ -62,17 +39,17 @@ module _ (p a n : ℕ) where
   pub even_power : n % 2 ≡ 0 → (a * a % suc p) ^ (n / 2) % suc p ≡ a ^ n % suc p
   even_power h =
       let e : n / 2 + n / 2 ≡ n = omega arith in
-      mod_pow p (a * a) (n / 2) ∙ ap (λ (z : ℕ). z % suc p) (square_pow a (n / 2) ∙ ap (λ (k : ℕ). a ^ k) e)
+      pow-mod (a * a) (n / 2) (suc p) ∙ ap (λ (z : ℕ). z % suc p) (square_pow a (n / 2) ∙ ap (λ (k : ℕ). a ^ k) e)
 
   pub odd_power : (n % 2 ≢ 0) → ((a * a % suc p) ^ (n / 2) % suc p) * a % suc p ≡ a ^ n % suc p
   odd_power h =
       let m = suc p in
       let k = n / 2 in
       let e : suc (k + k) ≡ n = omega arith in
-      mod_mul p ((a * a % m) ^ k) a
-      ∙ (sym (mod_mul p ((a * a % m) ^ k) a)
-      ∙ (ap (λ (z : ℕ). z * a % m) (mod_pow p (a * a) k)
-      ∙ (mod_mul p ((a * a) ^ k) a
+      mul-mod_first ((a * a % m) ^ k) a m
+      ∙ (sym (mul-mod_first ((a * a % m) ^ k) a m)
+      ∙ (ap (λ (z : ℕ). z * a % m) (pow-mod (a * a) k m)
+      ∙ (mul-mod_first ((a * a) ^ k) a m
       ∙ ap (λ (z : ℕ). z % m) (ap (λ (z : ℕ). z * a) (square_pow a k) ∙ (sym (pow-suc a (k + k)) ∙ ap (λ (z : ℕ). a ^ z) e)))))
 
 pub squares-power : (p steps a n : ℕ) → 0 < p → n < 2 ^ steps → squares p steps a n ≡ a ^ n % suc p

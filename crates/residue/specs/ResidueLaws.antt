@@ -3,13 +3,14 @@ use Rattle.std.specs.Prelude.{◌≡◌, ℕ, zero, suc, ◌*◌, ◌%◌, ◌^�
 use Rattle.std.proofs.Common.{sym, ap, ◌∙◌, arith, mod-lt}
 use native.Mathlib.Fin
 use Rattle.std.proofs.Math.Nat.{mod-mod}
+use Rattle.std.proofs.lemmas.Nat.{mul-mod_first}
 use Rattle.std.proofs.lemmas.Bool.{lt-ltb}
 use Rattle.domain.specs.declared.number.Number.{Number}
 use Rattle.domain.specs.Fields.{FieldLaws}
 use Rattle.domain.specs.Numbers.{below}
 use Rattle.residue.specs.Residues.{residues}
 use Rattle.domain.proofs.Coded.{plain_number, magnitude_below, again, back}
-use Rattle.residue.specs.Modular.{modulo_laws, mod_mul, squares, squares-power}
+use Rattle.residue.specs.Modular.{modulo_laws, squares, squares-power}
 use Rattle.domain.proofs.Tests.{agree_at}
 
 -- Fermat's little theorem, computed at each residue but zero
@@ -26,7 +27,7 @@ inverse_unit : (a : Number) → below 8191 a ≡ true → residues.value a ≢ r
     → residues.ring.mul (residues.value a) (residues.value (residues.inverse a)) ≡ residues.ring.one
 inverse_unit a c h =
     let n = unsigned_abs a.int in
-    Fin.val_path (mod_mul 8190 n (n ^ 8189 % 8191 % 8191)
+    Fin.val_path (mul-mod_first n (n ^ 8189 % 8191 % 8191) 8191
     ∙ (ap (λ (z : ℕ). n * z % 8191) (mod-mod (n ^ 8189) 8191)
     ∙ fermat n (magnitude_below 8191 a c) (λ z. h (Fin.val_path (ap (λ (m : ℕ). m % 8191) z)))))
 

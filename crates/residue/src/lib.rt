@@ -35,12 +35,12 @@ fn power(a: u32, exponent: u32) -> u32
     }
 }
 
-// The code of a residue.
+// The code of a residue. By `as`: it fits, and `try_from` would have an `Err` that never comes.
 fn residue(n: u32) -> Number
     requires { n < 8191 }
     ensures { result ≡ numbered (pos n) }
 {
-    Number::of(n as u16)
+    Number::from(n as u16)
 }
 
 impl Arithmetic for Residues {

@@ -1,6 +1,5 @@
 -- The greatest common divisor.
 use Rattle.std.specs.Prelude.{ℕ, zero, suc, ◌%◌}
-use Rattle.std.specs.Int.{◌∣◌}
 
 -- Euclid's algorithm, in at most so many steps
 abbrev pub euclid : ℕ → ℕ → ℕ → ℕ
@@ -11,9 +10,3 @@ euclid (suc steps) a (suc b) = euclid steps (suc b) (a % suc b)
 -- the second number falls with each step
 abbrev pub gcd : ℕ → ℕ → ℕ
 gcd a b = euclid (suc b) a b
-
--- g divides a and b, and each common divisor divides g
-pub record Greatest (a b g : ℕ) : Type 0 where
-  pub left : g ∣ a
-  pub right : g ∣ b
-  pub most : (d : ℕ) → d ∣ a → d ∣ b → d ∣ g

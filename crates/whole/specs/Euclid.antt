@@ -1,8 +1,10 @@
 -- Euclid's algorithm gives the greatest common divisor.
 use Rattle.std.specs.Prelude.{◌≡◌, ℕ, zero, suc, ◌-◌, ◌*◌, ◌/◌, ◌%◌, ◌<◌, ◌≤◌, ◌≢◌, refl}
 use Rattle.std.proofs.Common.{sym, ap, ◌∙◌, arith, mod-lt, mul_assoc, mul-zero, mul-pos}
-use Rattle.std.proofs.Math.Nat.{mod_def, mul-sub, mul-div-mul_left, mul-lt-mul_of_pos_left, dvd_refl, dvd-zero, dvd-mod_iff, pos_of_dvd_of_pos, le_of_dvd}
-use Rattle.whole.specs.Divisors.{euclid, gcd, Greatest}
+use Rattle.std.proofs.Math.Nat.{mod_def, mul-sub, mul-div-mul_left, mul-lt-mul_of_pos_left, pos_of_dvd_of_pos, le_of_dvd}
+use Rattle.std.specs.Int.{IsGcd}
+use Rattle.std.proofs.lemmas.Nat.Gcd.{IsGcd-from_zero, IsGcd-from_mod}
+use Rattle.whole.specs.Divisors.{euclid, gcd}
 
 -- one step more or less makes no difference while the steps suffice
 more : (m n a b : ℕ) → b < m → b < n → euclid m a b ≡ euclid n a b
@@ -19,28 +21,18 @@ gcd-next a (suc b) h =
     let l : a % suc b < suc b = mod-lt a (omega arith) in
     more (suc (a % suc b)) (suc b) (suc b) (a % suc b) (omega arith) l
 
-pub greatest_none : (a : ℕ) → Greatest a 0 a
-greatest_none a = record { left = dvd_refl a; right = dvd-zero a; most = λ d p q. p }
-
-pub greatest_next : (a b g : ℕ) → Greatest b (a % b) g → Greatest a b g
-greatest_next a b g r = record {
-  left = (dvd-mod_iff g r.left).0 r.right;
-  right = r.left;
-  most = λ d p q. r.most d q ((dvd-mod_iff d q).1 p);
-}
-
-pub greatest : (steps a b : ℕ) → b < steps → Greatest a b (euclid steps a b)
+pub greatest : (steps a b : ℕ) → b < steps → IsGcd a b (euclid steps a b)
 greatest zero a b h = absurd (omega arith)
-greatest (suc steps) a zero h = greatest_none a
+greatest (suc steps) a zero h = IsGcd-from_zero a 0 refl
 greatest (suc steps) a (suc b) h =
     let l : a % suc b < suc b = mod-lt a (omega arith) in
-    greatest_next a (suc b) (euclid steps (suc b) (a % suc b)) (greatest steps (suc b) (a % suc b) (omega arith))
+    IsGcd-from_mod a (suc b) (euclid steps (suc b) (a % suc b)) (greatest steps (suc b) (a % suc b) (omega arith))
 
-pub gcd_greatest : (a b : ℕ) → Greatest a b (gcd a b)
+pub gcd_greatest : (a b : ℕ) → IsGcd a b (gcd a b)
 gcd_greatest a b = greatest (suc b) a b (omega arith)
 
 pub gcd-pos : (a b : ℕ) → 0 < b → 0 < gcd a b
-gcd-pos a b h = pos_of_dvd_of_pos (gcd_greatest a b).right h
+gcd-pos a b h = pos_of_dvd_of_pos (gcd_greatest a b).1 h
 
 -- a common multiplier comes out
 step : (n a b : ℕ) → 0 < b → euclid (suc n) a b ≡ euclid n b (a % b)
@@ -67,4 +59,4 @@ pub gcd-scaled : (k a b : ℕ) → 0 < k → gcd (k * a) (k * b) ≡ k * gcd a b
 gcd-scaled k a b h = scaled (suc b) (suc (k * b)) k a b h (omega arith) (omega arith)
 
 pub gcd_small : (a b : ℕ) → 0 < b → gcd a b ≤ b
-gcd_small a b h = le_of_dvd h (gcd_greatest a b).right
+gcd_small a b h = le_of_dvd h (gcd_greatest a b).1

@@ -5,13 +5,14 @@ use Rattle.std.specs.Int.{◌∣◌}
 use Rattle.std.proofs.Math.Nat.{mul-div_cancel'}
 use Rattle.std.proofs.Math.IntN.{neg_ℤ-neg_ℤ}
 use Rattle.std.proofs.lemmas.Bool.{le-leb}
+use Rattle.std.proofs.lemmas.Int.{unsigned_abs-mul}
 use Rattle.domain.specs.declared.number.Number.{Number}
 use Rattle.whole.specs.Divisors.{gcd}
 use Rattle.whole.specs.Integers.{integers, signed, negative, common}
 use Rattle.domain.specs.Model.{Codes, Factors, Scales, Sound}
 use Rattle.domain.specs.Numbers.{number}
 use Rattle.whole.specs.Euclid.{gcd_greatest, gcd-pos, gcd_small, gcd-scaled}
-use Rattle.whole.specs.IntegerRing.{integer_laws, mul-neg, abs_neg, abs-mul, abs-add, abs-zero, abs-pos, no_divisors, cancel_mul}
+use Rattle.whole.specs.IntegerRing.{integer_laws, mul-neg, abs_neg, abs-add, abs-zero, abs-pos, no_divisors, cancel_mul}
 
 signed-abs : (s : Bool) (n : ℕ) → unsigned_abs (signed s n) ≡ n
 signed-abs true n = abs_neg (pos n)
@@ -30,10 +31,10 @@ module _ (a b : ℤ) where
   common-abs = signed-abs (negative b) (gcd (unsigned_abs a) (unsigned_abs b))
 
   exact_left : common a b *ℤ int_div a (common a b) ≡ a
-  exact_left = let P : ℕ → Type 0 = λ g. g ∣ unsigned_abs a in exact (common a b) a (subst P (sym common-abs) (gcd_greatest (unsigned_abs a) (unsigned_abs b)).left)
+  exact_left = let P : ℕ → Type 0 = λ g. g ∣ unsigned_abs a in exact (common a b) a (subst P (sym common-abs) (gcd_greatest (unsigned_abs a) (unsigned_abs b)).0)
 
   exact_right : common a b *ℤ int_div b (common a b) ≡ b
-  exact_right = let P : ℕ → Type 0 = λ g. g ∣ unsigned_abs b in exact (common a b) b (subst P (sym common-abs) (gcd_greatest (unsigned_abs a) (unsigned_abs b)).right)
+  exact_right = let P : ℕ → Type 0 = λ g. g ∣ unsigned_abs b in exact (common a b) b (subst P (sym common-abs) (gcd_greatest (unsigned_abs a) (unsigned_abs b)).1)
 
   pub common-pos : 0 < unsigned_abs b → 0 < unsigned_abs (common a b)
   common-pos h = let p = gcd-pos (unsigned_abs a) (unsigned_abs b) h in omega (arith, common-abs, p)
@@ -57,7 +58,7 @@ signed_mul (negsuc k) (negsuc b) n h g = sym (mul-neg (negsuc k) (pos n) ∙ neg
 module _ (k a b : ℤ) (h : b ≢ pos 0) (n : k ≢ pos 0) where
   common-scaled : common (k *ℤ a) (k *ℤ b) ≡ k *ℤ common a b
   common-scaled =
-      ap (signed (negative (k *ℤ b))) (ap₂ gcd (abs-mul k a) (abs-mul k b) ∙ gcd-scaled (unsigned_abs k) (unsigned_abs a) (unsigned_abs b) (abs-pos k n))
+      ap (signed (negative (k *ℤ b))) (ap₂ gcd (unsigned_abs-mul k a) (unsigned_abs-mul k b) ∙ gcd-scaled (unsigned_abs k) (unsigned_abs a) (unsigned_abs b) (abs-pos k n))
       ∙ signed_mul k b (gcd (unsigned_abs a) (unsigned_abs b)) n h
 
   -- a quotient by what both have in common stays
@@ -85,7 +86,7 @@ codes = record {
 -- a factor of a number that has a code has one
 coded_factor : (g p z : ℤ) → g *ℤ p ≡ z → 0 < unsigned_abs g → unsigned_abs z ≤ 2147483647 → integers.coded (number p) ≡ true
 coded_factor g p z e h l =
-    let m = sym (abs-mul g p) ∙ ap unsigned_abs e in
+    let m = sym (unsigned_abs-mul g p) ∙ ap unsigned_abs e in
     let n : 1 * unsigned_abs p ≤ unsigned_abs g * unsigned_abs p = mul-le-mul_right (unsigned_abs p) h in
     le-leb (unsigned_abs p) 2147483647 (omega (arith, m, n))
 
@@ -121,7 +122,7 @@ pub integers_sound : Sound integers
 integers_sound = record {
   laws = integer_laws;
   integral = record { apart = λ e. let z : ◌≡◌ {A = ℕ} 0 1 = ap unsigned_abs e in omega arith; no_divisors = no_divisors };
-  sizes = record { sum = abs-add; product = abs-mul; kinds = inr (λ a. (abs-zero a, λ e. ap unsigned_abs e)) };
+  sizes = record { sum = abs-add; product = unsigned_abs-mul; kinds = inr (λ a. (abs-zero a, λ e. ap unsigned_abs e)) };
   codes = codes;
   factors = factors;
   scales = λ k a b a' b' ca cb h n ca' cb' ea eb. scales k a b a' b' h n ea eb;

@@ -1,9 +1,10 @@
 -- The integers are a ring without divisors of zero; sizes and signs of products.
-use Rattle.std.specs.Prelude.{◌≡◌, ℕ, zero, suc, ◌+◌, ◌-◌, ◌*◌, ◌<◌, ◌≤◌, Bool, true, false, cond, T, ◌≢◌, ◌⊎◌, ℤ, pos, negsuc, ◌+ℤ◌, ◌*ℤ◌, neg_ℤ, nat_lt, unsigned_abs, refl}
+use Rattle.std.specs.Prelude.{◌≡◌, ℕ, zero, suc, ◌+◌, ◌-◌, ◌<◌, ◌≤◌, Bool, true, false, cond, T, ◌≢◌, ◌⊎◌, ℤ, pos, negsuc, ◌+ℤ◌, ◌*ℤ◌, neg_ℤ, nat_lt, unsigned_abs, refl}
 use Rattle.std.proofs.Common.{sym, ap, subst, ◌∙◌, inl, inr, arith, ltb→lt}
 use Rattle.std.proofs.Math.Decide.{dec_lt}
 use Rattle.std.proofs.Math.Nat.{one-le-mul}
 use Rattle.std.proofs.Math.IntN.{one, sub_ℕ, suc_ℤ, pred_ℤ, ℤ_ind, +ℤ_assoc, +ℤ_comm, +ℤ_idl, +ℤ_idr, +ℤ_invr, *ℤ-one, *ℤ_comm, zero-*ℤ, *ℤ-zero, suc_ℤ-*ℤ, pred_ℤ-*ℤ, +ℤ_one, -ℤ_one, suc_ℤ-+ℤ, pred_ℤ-+ℤ}
+use Rattle.std.proofs.lemmas.Int.{unsigned_abs-mul}
 use Rattle.whole.specs.Integers.{integer_ring}
 use Rattle.domain.specs.Ring.{Laws}
 use Rattle.domain.specs.Rings.{cancel}
@@ -61,12 +62,6 @@ abs_neg (pos zero) = refl
 abs_neg (pos (suc n)) = refl
 abs_neg (negsuc n) = refl
 
-pub abs-mul : (a b : ℤ) → unsigned_abs (a *ℤ b) ≡ unsigned_abs a * unsigned_abs b
-abs-mul (pos a) (pos b) = refl
-abs-mul (pos a) (negsuc b) = abs_neg (pos (a * suc b))
-abs-mul (negsuc a) (pos b) = abs_neg (pos (suc a * b))
-abs-mul (negsuc a) (negsuc b) = refl
-
 abs-sub : (a b : ℕ) → unsigned_abs (sub_ℕ a b) ≤ a + b
 abs-sub a b = go (nat_lt a b) refl
   where
@@ -91,7 +86,7 @@ pub no_divisors : (a b : ℤ) → a *ℤ b ≡ pos 0 → (a ≡ pos 0) ⊎ (b �
 no_divisors a b e =
     elim (dec_lt 0 (unsigned_abs a)) [
       | yes l ↦ elim (dec_lt 0 (unsigned_abs b)) [
-        | yes k ↦ let p = one-le-mul l k in let q = sym (abs-mul a b) ∙ ap unsigned_abs e in absurd (omega arith)
+        | yes k ↦ let p = one-le-mul l k in let q = sym (unsigned_abs-mul a b) ∙ ap unsigned_abs e in absurd (omega arith)
         | no k ↦ inr (abs-zero b (omega arith))
       ]
       | no l ↦ inl (abs-zero a (omega arith))

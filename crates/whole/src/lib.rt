@@ -2,8 +2,9 @@
 #![tactic(auto)]
 
 ghost use Rattle.std.specs.Prelude.{◌≡◌, ◌^◌, ◌<◌, ◌≤◌, ℤ, Ok, int_div, unsigned_abs};
+ghost use Rattle.std.specs.Int.{IsGcd};
 ghost use Rattle.domain.specs.Answers.{given};
-ghost use Rattle.whole.specs.Divisors.{gcd as divisor, Greatest};
+ghost use Rattle.whole.specs.Divisors.{gcd as divisor};
 ghost use Rattle.whole.specs.Integers.{integers, signed as sign, negative, common as shared, fitted};
 ghost use Rattle.domain.specs.Numbers.{number as numbered};
 ghost use Rattle.whole.specs.IntegerLaws.{integers_sound};
@@ -20,7 +21,7 @@ pub struct Whole;
 // The greatest common divisor, by Euclid's algorithm: the remainder falls.
 pub fn gcd(a: u32, b: u32) -> u32
     ensures value { result ≡ divisor a b }
-    ensures greatest { Greatest a b result }
+    ensures greatest { IsGcd a b result }
 {
     if b == 0 { a } else { gcd(b, a % b) }
 }
@@ -46,30 +47,26 @@ fn encode(exact: Option<i32>) -> Result<Number, Fault>
     }
 }
 
-fn signed(minus: bool, n: u32) -> Number
+// n, with the sign of a. By `as`: it fits, and `try_from` would have an `Err` that never comes.
+fn signed(a: Number, n: u32) -> Number
     requires { n < 2 ^ 31 }
-    ensures { result ≡ numbered (sign minus n) }
+    ensures { result ≡ numbered (sign (negative a.int) n) }
 {
-    if minus {
-        return Number { int: -(n as i32) };
+    let int = n as i32;
+    Number {
+        int: if a.int < 0 { -int } else { int },
     }
-    Number { int: n as i32 }
-}
-
-fn is_negative(a: Number) -> bool
-    ensures { result ≡ negative a.int }
-{
-    a.int < 0
 }
 
 // The greatest common divisor, with the sign of b.
 fn common(a: Number, b: Number) -> Number
     requires nonzero { 0 < unsigned_abs b.int }
     requires in_range { unsigned_abs b.int ≤ 2147483647 }
-    ensures { result ≡ numbered (shared a.int b.int) }
+    ensures value { result ≡ numbered (shared a.int b.int) }
+    ensures nonzero { 0 < unsigned_abs result.int }
 {
     let d = gcd(a.int.unsigned_abs(), b.int.unsigned_abs());
-    signed(is_negative(b), d)
+    signed(b, d)
 }
 
 // The quotient, rounded toward zero.
