@@ -1,8 +1,7 @@
 -- An entry that is found, appended, or refused.
-use Rattle.std.proofs.Common.{◌≡◌, ℕ, suc, ◌*◌, ◌<◌, ◌≤◌, Bool, true, false, ◌≢◌, List, [], ◌∷◌, ◌++◌, length, get_or, IfErr, Ok, Err, Result, sym, ap, ◌∙◌, subst, ap₂, inl, inr, append-nil, mul-le-mul_right, zero-mul as zero-mul-ℕ, arith, length-append, MatchResult}
+use Rattle.std.proofs.Common.{◌≡◌, ℕ, suc, ◌*◌, ◌<◌, ◌≤◌, Bool, true, false, ◌≢◌, List, [], ◌∷◌, ◌++◌, length, sym, ap, ◌∙◌, subst, ap₂, inl, inr, append-nil, mul-le-mul_right, zero-mul as zero-mul-ℕ, arith, length-append}
 use mathlib.Core.Bool.{false≢true}
 use native.Mathlib.Decide.{dec_lt}
-use lib.Seq.{get_or-append_seam}
 use Rattle.domain.specs.Model.{Model, Sound}
 use Rattle.domain.specs.Numbers.{is_zero as zero_code}
 use Rattle.domain.specs.declared.fault.Fault.{Fault}
@@ -21,43 +20,16 @@ use Rattle.polynomial.proofs.KnownEntries.{known_entry, grown_entry}
 use Rattle.polynomial.proofs.Making.{Made, made}
 use Rattle.polynomial.proofs.Minimality.{look_among}
 use Rattle.polynomial.proofs.Pigeonhole.{among_eq}
-use Rattle.diagram.specs.Filling.{Appended}
-use Rattle.diagram.specs.Nodes.{Moved, Numbered, Interned, Joins, joint, Wanted, Joined, Denied}
+use Rattle.diagram.specs.Nodes.{Moved, Numbered, Joins, joint, Wanted, Joined, Denied}
 use Rattle.diagram.specs.Places.{All, Absent, Falls}
-use Rattle.diagram.specs.Stores.{items}
 use Rattle.diagram.specs.Tables.{node_of, nodes, tree, Coded, Kept}
 use Rattle.diagram.specs.declared.entry.Entry.{Entry}
 use Rattle.diagram.specs.declared.entry.Reference.{Reference}
-use Rattle.diagram.specs.declared.store.Store.{Store}
 use Rattle.diagram.proofs.Listing.{all_push}
 use Rattle.diagram.proofs.Numbering.{node_not_leaf, nodes-append, length-nodes, length_all, tree_more, tree_last, linked, tree-at, code_inj}
 
--- an absent entry that was appended, or had no room
-pub interned_absent : (s s' : Store) (e : Entry) → Absent (items s) e (length (items s)) → (r : Result ℕ Fault)
-    → MatchResult r (λ n. Appended (items s) (items s') s.capacity e n) (λ f. (s' ≡ s) × (length (items s) < s.capacity → ⊥) × (f ≡ Full s.capacity))
-    → Interned (items s) (items s') s.capacity e r
-interned_absent s s' e a (Ok n) h =
-    record {
-      place = length (items s);
-      next = h.number;
-      inside = omega (arith, ap length h.more, length-append (items s) (e ∷ []));
-      here = λ d. ap (λ l. get_or l (length (items s)) d) h.more ∙ get_or-append_seam (items s) e [] d;
-      grown = inr (h.more, a);
-    }
-interned_absent s s' e a (Err f) h = (h.2, h.1, a)
-
-pub unchanged : (s s' : Store) (P : ℕ → Type 0) (Q : Fault → Type 0) (r : Result ℕ Fault) → MatchResult r P (λ f. (s' ≡ s) × (length (items s) < s.capacity → ⊥) × Q f) → IfErr r (λ _. s' ≡ s)
-unchanged s s' P Q (Ok n) h = tt
-unchanged s s' P Q (Err f) h = h.0
-
-pub moved_none : (es : List Entry) → Moved es es
-moved_none es = record { more = []; is = sym (append-nil es) }
-
 pub moved_numbered : (es fs : List Entry) (e : Entry) (n : ℕ) → Numbered es fs e n → Moved es fs
 moved_numbered es fs e n h = elim h.grown [ inl q ↦ record { more = []; is = q ∙ sym (append-nil es) } | inr q ↦ record { more = e ∷ []; is = q.0 } ]
-
-pub inside_numbered : (es fs : List Entry) (e : Entry) (n : ℕ) → Numbered es fs e n → n ≤ length fs
-inside_numbered es fs e n h = omega (arith, h.next, h.inside)
 
 make-zero : {E : Type 0} (M : Model E) (x : ℕ) (a : E) (m : Tree E) (b : E) (n : Tree E) → is_zero M b ≡ true → make M x a m b n ≡ (a, m)
 make-zero {E} M x a m b n e =

@@ -1,9 +1,8 @@
 -- A letter alone.
-use Rattle.std.proofs.Common.{◌≡◌, ℕ, zero, suc, ◌*◌, ◌<◌, ◌≤◌, ◌⊎◌, ◌↔◌, List, length, get_or, pos, IfErr, Ok, Err, Result, sym, refl, ap, ◌∙◌, subst, ap₂, inl, inr, zero-mul as zero-mul-ℕ, arith, MatchResult}
+use Rattle.std.proofs.Common.{◌≡◌, ℕ, zero, suc, ◌*◌, ◌<◌, ◌≤◌, ◌⊎◌, ◌↔◌, List, length, get_or, pos, Ok, Err, Result, sym, refl, ap, ◌∙◌, subst, ap₂, inl, inr, zero-mul as zero-mul-ℕ, arith, MatchResult}
 use Rattle.domain.specs.Model.{Model, Sound}
 use Rattle.domain.specs.Numbers.{number}
 use Rattle.domain.specs.declared.fault.Fault.{Fault}
-use Rattle.domain.specs.declared.fault.Fault.TheVariants.{Full}
 use Rattle.polynomial.specs.Diagrams.{Inside, InDiagram}
 use Rattle.polynomial.specs.Polynomials.{Polynomial, Poly, cons, constant, letter}
 use Rattle.polynomial.specs.Trees.{Tree, leaf, node, tree_mass, value}
@@ -12,14 +11,11 @@ use Rattle.polynomial.proofs.ElementFacts.{size_zero}
 use Rattle.polynomial.proofs.GrowthLaws.{grown_same, overfull_more}
 use Rattle.polynomial.proofs.Rings.{zero-add, zero-mul}
 use Rattle.polynomial.proofs.Theorems.{ring_laws, diagram_laws}
-use Rattle.diagram.specs.Filling.{Named}
-use Rattle.diagram.specs.Letters.{Lettered, BadLetter, NoLetter}
+use Rattle.diagram.specs.Letters.{Lettered, NoLetter}
 use Rattle.diagram.specs.Nodes.{Moved, Joins, joint, Wanted, Joined, Granted, Denied}
-use Rattle.diagram.specs.Stores.{items}
 use Rattle.diagram.specs.Tables.{nodes, LawfulIn, Kept, Stays}
 use Rattle.diagram.specs.declared.entry.Entry.{Entry}
 use Rattle.diagram.specs.declared.entry.Reference.{Reference}
-use Rattle.diagram.specs.declared.store.Store.{Store}
 use Rattle.diagram.proofs.Joining.{mk, joint_node, F}
 use Rattle.diagram.proofs.LawfulLaws.{zero_lawful}
 use Rattle.diagram.proofs.Negating.{constant-stands}
@@ -117,11 +113,3 @@ module _ {E : Type 0} (M : Model E) (S : Sound M) (k : ℕ) (es : List Entry) (K
       → MatchResult r (Lettered M k cap ls es fs byte) (NoLetter M k ls es cap byte)
   lettered cap ls fs byte Same here names (Ok v) m J = record { place = x; known = known; names = names; granted = granted cap fs v m.0 J }
   lettered cap ls fs byte Same here names (Err e) m D = inr ((x, here, names), record { place = x; known = known; names = names; denied = denied cap e D })
-
--- and on any table
-pub lettered_any : (s s' : Store) (ls : List ℕ) (byte x : ℕ) → x < length ls → get_or ls x 0 ≡ byte → (Same : Type 0) → (s' ≡ s → Same) → (r : Result Reference Fault)
-    → MatchResult r (λ v. Moved (items s) (items s') × (v.entry ≤ length (items s'))) (λ _. s' ≡ s)
-    → IfErr r (λ e. (e ≡ Full s.capacity) × (length (items s) < s.capacity → ⊥))
-    → MatchResult r (λ _. Named ls byte × Moved (items s) (items s')) (λ e. Same × BadLetter ls (items s) s.capacity byte e)
-lettered_any s s' ls byte x here names Same same (Ok v) m f = ((x, here, names), m.0)
-lettered_any s s' ls byte x here names Same same (Err e) m f = (same m, inr ((x, here, names), f))

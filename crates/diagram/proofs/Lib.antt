@@ -1,6 +1,5 @@
 pub mod Comparing
 pub mod CountingLaws
-pub mod FillingLaws
 pub mod Joining
 pub mod LawfulLaws
 pub mod Lettering
@@ -9,7 +8,6 @@ pub mod Marking
 pub mod Monomials
 pub mod Negating
 pub mod Numbering
-pub mod Ordering
 pub mod Refusing
 pub mod Walking
 pub mod Weighing

@@ -1,5 +1,6 @@
 -- Lists by their places.
-use Rattle.std.proofs.Common.{◌≡◌, ℕ, zero, suc, ◌+◌, ◌<◌, ◌⊎◌, List, [], ◌∷◌, ◌++◌, length, get_or, refl, ⊎_elim, arith, length-append}
+use Rattle.std.proofs.Common.{◌≡◌, ℕ, zero, suc, ◌+◌, ◌<◌, ◌⊎◌, List, [], ◌∷◌, ◌++◌, length, get_or, take, refl, ◌∙◌, ⊎_elim, arith, length-append, length-take, get_or-take}
+use native.Mathlib.Nat.{min-le_left, min-le_right}
 use lib.ListN.{get_or-append}
 use lib.Seq.{get_or-append_seam}
 use Rattle.diagram.specs.Places.{All}
@@ -21,3 +22,10 @@ pub get_or-any : {X : Type 0} (l : List X) (i : ℕ) (c d : X) → i < length l 
 get_or-any [] i c d h = absurd (omega arith)
 get_or-any (a ∷ l) zero c d h = refl
 get_or-any (a ∷ l) (suc i) c d h = get_or-any l i c d (omega arith)
+
+-- an item of the first n
+pub taken_at : {X : Type 0} (xs : List X) (n i : ℕ) (c d : X) → i < length (take n xs) → (i < length xs) × (get_or (take n xs) i c ≡ get_or xs i d)
+taken_at xs n i c d h =
+    let below : i < n = omega (arith, h, length-take n xs, min-le_left n (length xs)) in
+    let inside : i < length xs = omega (arith, h, length-take n xs, min-le_right n (length xs)) in
+    (inside, get_or-take n xs i c below ∙ get_or-any xs i c d inside)

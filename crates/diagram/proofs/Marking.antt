@@ -1,5 +1,7 @@
 -- Marks for the entries that are reached.
-use Rattle.std.proofs.Common.{◌≡◌, ℕ, zero, suc, ◌+◌, ◌<◌, ◌≤◌, Bool, true, false, cond, ◌⊎◌, List, ◌∷◌, length, get_or, set, replicate, sym, refl, ap, ◌∙◌, subst, inl, inr, add-one, arith, length-set, get_or-set_other, get_or-set_same}
+use Rattle.std.proofs.Common.{◌≡◌, ℕ, zero, suc, ◌+◌, ◌<◌, ◌≤◌, Bool, true, false, cond, ◌⊎◌, List, ◌∷◌, length, get_or, take, drop, set, replicate, count_by, sym, refl, ap, ◌∙◌, subst, inl, inr, add-one, arith, length-set, length-drop, get_or-drop, get_or-set_other, get_or-set_same}
+use Rattle.std.proofs.Math.Numerals.{one-add}
+use Rattle.std.proofs.lemmas.List.Sums.{count_by_more_yes, count_by_more_no}
 use mathlib.Core.Bool.{false≢true}
 use native.Mathlib.Decide.{dec_lt}
 use lib.ListN.{length-replicate}
@@ -13,23 +15,27 @@ module _ (ms : List Bool) where
   abbrev next : ℕ → Bool → List ℕ
   next i b = cond b (suc i ∷ marked ms i) (marked ms i)
 
-  pub length_marked : (n : ℕ) → length (marked ms n) ≤ n
-  length_marked zero = omega arith
-  length_marked (suc i) = go (length_marked i) (get_or ms (suc i) false)
+  -- how many there are, as the chain over the marks counts them
+  pub count_marked : (n : ℕ) → n < length ms → count_by (λ (b : Bool). b) (take n (drop 1 ms)) ≡ length (marked ms n)
+  count_marked zero h = refl
+  count_marked (suc i) h = go (count_marked i (omega (arith, h))) (get_or ms (suc i) false) refl
     where
-      go : length (marked ms i) ≤ i → (b : Bool) → length (next i b) ≤ suc i
-      go h true = omega arith
-      go h false = omega arith
+      inside : i < length (drop 1 ms)
+      inside = omega (arith, h, length-drop 1 ms)
 
-  pub marked_more : (i : ℕ) → get_or ms (i + 1) false ≡ true → length (marked ms (i + 1)) ≡ length (marked ms i) + 1
-  marked_more i e =
-      let e' : get_or ms (suc i) false ≡ true = ap (λ n. get_or ms n false) (sym (add-one i)) ∙ e in
-      ap (λ n. length (marked ms n)) (add-one i) ∙ (ap (λ b. length (next i b)) e' ∙ sym (add-one (length (marked ms i))))
+      at : get_or (drop 1 ms) i false ≡ get_or ms (suc i) false
+      at = get_or-drop 1 ms i false ∙ ap (λ k. get_or ms k false) (one-add i)
 
-  pub marked_same : (i : ℕ) → get_or ms (i + 1) false ≡ false → length (marked ms (i + 1)) ≡ length (marked ms i)
-  marked_same i e =
-      let e' : get_or ms (suc i) false ≡ false = ap (λ n. get_or ms n false) (sym (add-one i)) ∙ e in
-      ap (λ n. length (marked ms n)) (add-one i) ∙ ap (λ b. length (next i b)) e'
+      up : take (suc i) (drop 1 ms) ≡ take (i + 1) (drop 1 ms)
+      up = ap (λ k. take k (drop 1 ms)) (sym (add-one i))
+
+      go : count_by (λ (b : Bool). b) (take i (drop 1 ms)) ≡ length (marked ms i) → (b : Bool) → get_or ms (suc i) false ≡ b → count_by (λ (b : Bool). b) (take (suc i) (drop 1 ms)) ≡ length (marked ms (suc i))
+      go ih true e =
+          ap (count_by (λ (b : Bool). b)) up ∙ (count_by_more_yes (λ (b : Bool). b) (drop 1 ms) i false inside (at ∙ e)
+          ∙ (ap (λ k. k + 1) ih ∙ (add-one (length (marked ms i)) ∙ sym (ap (λ b. length (next i b)) e))))
+      go ih false e =
+          ap (count_by (λ (b : Bool). b)) up ∙ (count_by_more_no (λ (b : Bool). b) (drop 1 ms) i false inside (at ∙ e)
+          ∙ (ih ∙ sym (ap (λ b. length (next i b)) e)))
 
   among_marked : (n j : ℕ) → Among j (marked ms n) → (1 ≤ j) × (j ≤ n) × Mark ms j
   among_marked zero j a = absurd a

@@ -1,11 +1,11 @@
 -- The exit of a `?`, and what a domain answers to codes.
-use Rattle.std.proofs.Common.{◌≡◌, Bool, true, false, cond, IsErrAnd, Ok, Err, Result, ap, MatchResult}
+use Rattle.std.proofs.Common.{◌≡◌, ℕ, Bool, true, false, cond, pos, IsErrAnd, Ok, Err, Result, ap, MatchResult, nat_le, arith}
 use Rattle.domain.specs.Answers.{factored}
 use Rattle.domain.specs.Model.{Model}
-use Rattle.domain.specs.Numbers.{is_zero, no_code}
+use Rattle.domain.specs.Numbers.{number, is_zero, no_code, natural}
+use Rattle.domain.specs.declared.fault.Fault.TheVariants.{NoCode}
 use Rattle.domain.specs.declared.fault.Fault.{Fault}
 use Rattle.domain.specs.declared.number.Number.{Number}
-use Rattle.diagram.specs.Checks.{Checked}
 
 pub fails : {T E : Type 0} {Q : E → Type 0} (r : Result T E) (P : T → Type 0) (B : E → Type 0) → IsErrAnd r Q → ((e : E) → Q e → B e) → MatchResult r P B
 fails (Ok x) P B h f = absurd h
@@ -22,6 +22,9 @@ factored_ok M a b z ca cb nz e =
       ap (λ (t : Bool). cond {A = Result (Number × Number × Number) Fault} t (Err (no_code b)) (Ok (M.factor a b))) nz,
     )
 
-pub checked_err : {T : Type 0} {Q : Fault → Type 0} (r : Result T Fault) (P : Type 0) (f : Fault) (A : T → Type 0) → IsErrAnd r Q → ((e : Fault) → Q e → (P → ⊥) × (e ≡ f)) → Checked P f A r
-checked_err (Ok x) P f A h g = absurd h
-checked_err (Err e) P f A h g = g e h
+pub natural_ok : (n : ℕ) (a : Number) → Ok a ≡ natural n → a ≡ number (pos n)
+natural_ok n a e = go (nat_le n 2147483647) e
+  where
+    go : (t : Bool) → Ok a ≡ cond t (Ok (number (pos n))) (Err (NoCode (pos n))) → a ≡ number (pos n)
+    go true q = cc q
+    go false q = let z : ◌≡◌ {A = ℕ} 0 1 = cc in absurd (omega arith)

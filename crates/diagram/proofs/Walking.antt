@@ -1,5 +1,5 @@
 -- One step down.
-use Rattle.std.proofs.Common.{◌≡◌, ℕ, suc, ◌-◌, ◌<◌, ◌≤◌, Bool, true, false, cond, leb, ◌≢◌, ◌⊎◌, List, length, get_or, pos, Ok, Err, MatchBool, Result, sym, refl, ap, ◌∙◌, subst, inl, inr, le_trans, arith, length-set, MatchResult}
+use Rattle.std.proofs.Common.{◌≡◌, ℕ, suc, ◌-◌, ◌<◌, ◌≤◌, Bool, true, false, cond, leb, ◌≢◌, ◌⊎◌, List, length, get_or, pos, Ok, Err, MatchBool, Result, sym, ap, ◌∙◌, subst, inl, inr, le_trans, arith, length-set, MatchResult}
 use Rattle.std.proofs.lemmas.Bool.{le-leb}
 use Rattle.domain.specs.Answers.{multiplied}
 use Rattle.domain.specs.Model.{Model, Sound}
@@ -38,10 +38,7 @@ module _ {E : Type 0} (M : Model E) (S : Sound M) (a b : Number) (ca : M.coded a
   pub multiplied_err : (f : Fault) → ◌≡◌ {A = Result Number Fault} (Err f) (multiplied M a b) → ⊥
   multiplied_err f e = let h = e ∙ is_ok in let y : ◌≡◌ {A = ℕ} 0 1 = cc in omega arith
 
-module _ {E : Type 0} (M : Model E) (S : Sound M) (es : List Entry) (f : Reference) (u : List ℕ) (K : Kept M (length u) es) (L : LawfulIn M es f) where
-  abbrev k : ℕ
-  k = length u
-
+module _ {E : Type 0} (M : Model E) (S : Sound M) (es : List Entry) (f : Reference) (k : ℕ) (u : List ℕ) (lu : length u ≡ k) (K : Kept M k es) (L : LawfulIn M es f) where
   abbrev w : E
   w = M.value f.weight
 
@@ -49,11 +46,11 @@ module _ {E : Type 0} (M : Model E) (S : Sound M) (es : List Entry) (f : Referen
   pub stopped : f.entry ≡ 0 → (b : Bool) → MatchBool b (Spent u) ((i : ℕ) × (i < length u) × (get_or u i 0 ≢ 0)) → (r : Number) → r ≡ cond b f.weight (number (pos 0)) → CoefficientAt M k es f u r
   stopped e true s r q = record {
     coded = subst (λ n. M.coded n ≡ true) (sym q) L.coded;
-    is = ap M.value q ∙ sym (ap (λ n. coefficient M.ring k (value M.ring k w (tree M es n)) u) e ∙ leaf_spent M S k w u refl s);
+    is = ap M.value q ∙ sym (ap (λ n. coefficient M.ring k (value M.ring k w (tree M es n)) u) e ∙ leaf_spent M S k w u lu s);
   }
   stopped e false s r q = record {
     coded = subst (λ n. M.coded n ≡ true) (sym q) S.codes.zero.0;
-    is = ap M.value q ∙ (S.codes.zero.1 ∙ sym (ap (λ n. coefficient M.ring k (value M.ring k w (tree M es n)) u) e ∙ leaf_unspent M S k w u refl s.0 s.1 s.2));
+    is = ap M.value q ∙ (S.codes.zero.1 ∙ sym (ap (λ n. coefficient M.ring k (value M.ring k w (tree M es n)) u) e ∙ leaf_unspent M S k w u lu s.0 (omega (arith, s.1, lu)) s.2));
   }
 
   module _ (fall : Falls es) (some : f.entry ≢ 0) (e : Entry) (at : e ≡ get_or es (f.entry - 1) e) where
@@ -84,7 +81,7 @@ module _ {E : Type 0} (M : Model E) (S : Sound M) (es : List Entry) (f : Referen
     l = subst (Lawful M w) is_t L.lawful
 
     -- what the next reference is
-    pub record Next (d : Edge) (v : List ℕ) : Type 0 where
+    record Next (d : Edge) (v : List ℕ) : Type 0 where
       pub coded : M.coded d.weight ≡ true
       pub small : M.size (M.ring.mul w (M.value d.weight)) ≤ M.limit
       pub lawful : Lawful M (M.ring.mul w (M.value d.weight)) (tree M es d.target)
@@ -98,67 +95,62 @@ module _ {E : Type 0} (M : Model E) (S : Sound M) (es : List Entry) (f : Referen
     codes : Coded M 0 e
     codes = subst (Coded M 0) (sym at) (K.coded (f.entry - 1) e inside)
 
-    pub next : (d : Edge) (v : List ℕ) → Used e u v d ⊎ Unused e u v d → Next d v
+    next : (d : Edge) (v : List ℕ) → Used e u v d ⊎ Unused e u v d → Next d v
     next d v (inl U) =
         subst (λ c. Next c v) (sym U.edge) (subst (Next e.multiplicative) (sym U.less) (record {
           coded = codes.1;
           small = le_trans (le-mass M (facts S) k (M.ring.mul w q) n r.beside) (beside_lawful M (facts S) k e.letter p m q n r w l).light;
           lawful = beside_lawful M (facts S) k e.letter p m q n r w l;
-          long = length-set u e.letter U.rest;
+          long = length-set u e.letter U.rest ∙ lu;
           known = omega (arith, low.1, inside);
-          same = ap (λ t. coefficient M.ring k (value M.ring k w t) u) is_t ∙ node_used M S k w u refl e.letter p m q n r U.rest U.some;
+          same = ap (λ t. coefficient M.ring k (value M.ring k w t) u) is_t ∙ node_used M S k w u lu e.letter p m q n r U.rest U.some;
         }))
     next d v (inr U) =
         subst (λ c. Next c v) (sym U.edge) (subst (Next e.additive) (sym U.same) (record {
           coded = codes.0;
           small = le_trans (le-mass M (facts S) k (M.ring.mul w p) m r.below) (below_lawful M (facts S) k e.letter p m q n r w l).light;
           lawful = below_lawful M (facts S) k e.letter p m q n r w l;
-          long = refl;
+          long = lu;
           known = omega (arith, low.0, inside);
-          same = ap (λ t. coefficient M.ring k (value M.ring k w t) u) is_t ∙ node_unused M S k w u refl e.letter p m q n r (U.none r.known);
+          same = ap (λ t. coefficient M.ring k (value M.ring k w t) u) is_t ∙ node_unused M S k w u lu e.letter p m q n r (U.none (omega (arith, r.known, lu)));
         }))
 
-    module _ (d : Edge) (v : List ℕ) (N : Next d v) where
-      pub never : (b : Fault) → ◌≡◌ {A = Result Number Fault} (Err b) (multiplied M f.weight d.weight) → ⊥
-      never = multiplied_err M S f.weight d.weight L.coded N.coded N.small
+    -- the product of the weights is never refused
+    pub never : (d : Edge) (v : List ℕ) → Used e u v d ⊎ Unused e u v d → (b : Fault) → ◌≡◌ {A = Result Number Fault} (Err b) (multiplied M f.weight d.weight) → ⊥
+    never d v s = let N = next d v s in multiplied_err M S f.weight d.weight L.coded N.coded N.small
 
-      module _ (c : Number) (ok : ◌≡◌ {A = Result Number Fault} (Ok c) (multiplied M f.weight d.weight)) where
-        is_c : c ≡ M.code (M.ring.mul w (M.value d.weight))
+    -- the coefficient is that of the next reference, which is lawful
+    pub walked : (d : Edge) (v : List ℕ) → Used e u v d ⊎ Unused e u v d → (c : Number) → ◌≡◌ {A = Result Number Fault} (Ok c) (multiplied M f.weight d.weight) → (y : Result Number Fault)
+        → (Kept M k es → LawfulIn M es (record { weight = c; entry = d.target }) → MatchResult y (CoefficientAt M k es (record { weight = c; entry = d.target }) v) (λ _. ⊥))
+        → MatchResult y (CoefficientAt M k es f u) (λ _. ⊥)
+    walked d v s c ok y h = go y (h K lawful)
+      where
+        N : Next d v
+        N = next d v s
+
+        x : E
+        x = M.ring.mul w (M.value d.weight)
+
+        is_c : c ≡ M.code x
         is_c = multiplied_ok M S f.weight d.weight L.coded N.coded N.small c ok
 
-        value_c : M.value c ≡ M.ring.mul w (M.value d.weight)
-        value_c = ap M.value is_c ∙ (S.codes.has (M.ring.mul w (M.value d.weight)) N.small).1
+        value_c : M.value c ≡ x
+        value_c = ap M.value is_c ∙ (S.codes.has x N.small).1
 
-        pub kept_on : Kept M (length v) es
-        kept_on = subst (λ i. Kept M i es) (sym N.long) K
-
-        pub lawful_on : LawfulIn M es (record { weight = c; entry = d.target })
-        lawful_on = record {
-          coded = subst (λ i. M.coded i ≡ true) (sym is_c) (S.codes.has (M.ring.mul w (M.value d.weight)) N.small).0;
+        lawful : LawfulIn M es (record { weight = c; entry = d.target })
+        lawful = record {
+          coded = subst (λ i. M.coded i ≡ true) (sym is_c) (S.codes.has x N.small).0;
           inside = N.known;
           lawful = subst (λ i. Lawful M i (tree M es d.target)) (sym value_c) N.lawful;
         }
 
-        on : (y : Number) → CoefficientAt M (length v) es (record { weight = c; entry = d.target }) v y → CoefficientAt M k es f u y
-        on y C =
-            let C' = subst (λ i. CoefficientAt M i es (record { weight = c; entry = d.target }) v y) N.long C in
-            record { coded = C'.coded; is = C'.is ∙ (ap (λ i. coefficient M.ring k (value M.ring k i (tree M es d.target)) v) value_c ∙ sym N.same) }
+        go : (y : Result Number Fault) → MatchResult y (CoefficientAt M k es (record { weight = c; entry = d.target }) v) (λ _. ⊥) → MatchResult y (CoefficientAt M k es f u) (λ _. ⊥)
+        go (Ok z) C =
+            record { coded = C.coded; is = C.is ∙ (ap (λ i. coefficient M.ring k (value M.ring k i (tree M es d.target)) v) value_c ∙ sym N.same) }
+        go (Err b) C = C
 
-        pub walked : (y : Result Number Fault) → MatchResult y (CoefficientAt M (length v) es (record { weight = c; entry = d.target }) v) (λ _. ⊥) → MatchResult y (CoefficientAt M k es f u) (λ _. ⊥)
-        walked (Ok y) C = on y C
-        walked (Err b) C = C
-
--- from what is left at the start
+-- how the call ends
 module _ {E : Type 0} (M : Model E) (es : List Entry) (f : Reference) (u v : List ℕ) (k : ℕ) (same : v ≡ u) (long : length u ≡ k) (L : LawfulIn M es f) where
-  pub found : (r : Result Number Fault) → (Kept M (length v) es → LawfulIn M es f → MatchResult r (CoefficientAt M (length v) es f v) (λ _. ⊥)) → Kept M k es
-      → MatchResult r (Found M k es f u) (BadMonomial M k es f u Never)
-  found r h K = go r (subst (λ z. MatchResult r (CoefficientAt M z es f u) (λ _. ⊥)) long (subst (λ z. MatchResult r (CoefficientAt M (length z) es f z) (λ _. ⊥)) same (h (subst (λ z. Kept M z es) (sym (ap length same ∙ long)) K) L)))
-    where
-      go : (r : Result Number Fault) → MatchResult r (CoefficientAt M k es f u) (λ _. ⊥) → MatchResult r (Found M k es f u) (BadMonomial M k es f u Never)
-      go (Ok w) C = record { lawful = L; long = long; coefficient_at = C }
-      go (Err e) C = absurd C
-
-pub not_refused : {E : Type 0} (M : Model E) (es : List Entry) (f : Reference) (u : List ℕ) (k : ℕ) → length u ≡ k → LawfulIn M es f → (r : Result Number Fault)
-    → MatchResult r (λ _. LawfulIn M es f × (length u ≡ k)) (BadMonomial M k es f u (λ _. Unit {0}))
-not_refused M es f u k long L (Ok w) = (L, long)
-not_refused M es f u k long L (Err e) = inr (L, inr (long, tt))
+  pub found : (r : Result Number Fault) → MatchResult r (CoefficientAt M k es f v) (λ _. ⊥) → MatchResult r (Found M k es f u) (BadMonomial M k es f u Never)
+  found (Ok w) C = record { lawful = L; long = long; coefficient_at = subst (λ z. CoefficientAt M k es f z w) same C }
+  found (Err e) C = absurd C

@@ -1,5 +1,7 @@
 -- The masses of the entries, one after the other.
-use Rattle.std.proofs.Common.{◌≡◌, ℕ, zero, suc, ◌+◌, ◌*◌, ◌<◌, ◌≤◌, List, length, get_or, set, sym, ap, ◌∙◌, subst, ap₂, suc-mul, zero-mul, arith, length-set, get_or-set_other, get_or-set_same}
+use Rattle.std.proofs.Common.{◌≡◌, ℕ, zero, suc, ◌+◌, ◌*◌, ◌<◌, ◌≤◌, List, [], ◌∷◌, ◌++◌, length, get_or, take, sym, ap, ◌∙◌, subst, ap₂, suc-mul, zero-mul, arith, length-append}
+use lib.ListN.{get_or-append}
+use lib.Seq.{get_or-append_seam}
 use native.Mathlib.Nat.{min-eq_left, min-eq_right}
 use native.Mathlib.Decide.{dec_lt}
 use Rattle.domain.specs.Model.{Model}
@@ -9,6 +11,7 @@ use Rattle.diagram.specs.Masses.{capped, weighed}
 use Rattle.diagram.specs.Places.{All, Lower, Falls}
 use Rattle.diagram.specs.Tables.{node_of, nodes, tree, Coded}
 use Rattle.diagram.specs.declared.entry.Entry.{Entry}
+use Rattle.diagram.proofs.Listing.{taken_at}
 use Rattle.diagram.proofs.Numbering.{tree-at}
 
 -- the masses of the numbers up to i
@@ -69,15 +72,24 @@ module _ {E : Type 0} (M : Model E) (es : List Entry) (i : ℕ) (e : Entry) (fal
       ap₂ (λ y z. capped (capped (sp * y) + capped (sq * z))) (inv e.additive.target low.0) (inv e.multiplicative.target low.1)
       ∙ (ap₂ (λ y z. capped (y + z)) (capped-times sp m) (capped-times sq n) ∙ (capped_sum (sp * m) (sq * n) ∙ sym (ap (λ t. capped (tree_mass M t)) is)))
 
-  next-weighed : Weighed M es ms i → (v : ℕ) → v ≡ weighed M ms e → i + 1 < length ms → Weighed M es (set ms (i + 1) v) (i + 1)
-  next-weighed inv v ev room j h =
+  -- one more mass at the end
+  pub weighed_on : length ms ≡ i + 1 → Weighed M es ms i → (v : ℕ) → v ≡ weighed M ms e → Weighed M es (ms ++ v ∷ []) (i + 1)
+  weighed_on long inv v ev j h =
       elim (dec_lt i j) [
-        | yes b ↦ let ej : j ≡ i + 1 = omega arith in let ej' : j ≡ suc i = omega arith in
-            ap (λ n. get_or (set ms (i + 1) v) n 0) ej ∙ (get_or-set_same ms (i + 1) v 0 room ∙ (ev ∙ (next-mass inv ∙ ap (λ n. capped (tree_mass M (tree M es n))) (sym ej'))))
-        | no b ↦ get_or-set_other ms (i + 1) j v 0 (λ z. omega arith) ∙ inv j (omega arith)
+        | yes b ↦ let ej : j ≡ length ms = omega arith in let ej' : j ≡ suc i = omega arith in
+            ap (λ n. get_or (ms ++ v ∷ []) n 0) ej ∙ (get_or-append_seam ms v [] 0 ∙ (ev ∙ (next-mass inv ∙ ap (λ n. capped (tree_mass M (tree M es n))) (sym ej'))))
+        | no b ↦ get_or-append ms (v ∷ []) 0 j (omega arith) ∙ inv j (omega arith)
       ]
 
-  pub weighed_on : (v : ℕ) → (Coded M 0 e → v ≡ weighed M ms e) → length ms ≡ 1025 → i + 1 < length ms → (All (Coded M) es → Weighed M es ms i)
-      → (length (set ms (i + 1) v) ≡ 1025) × (All (Coded M) es → Weighed M es (set ms (i + 1) v) (i + 1))
-  weighed_on v ev long room inv =
-      (length-set ms (i + 1) v ∙ long, λ all. next-weighed (inv all) v (ev (subst (Coded M 0) (sym at) (all i e inside))) room)
+-- the same, as the loop over the first n entries has it
+pub weighed_step : {E : Type 0} (M : Model E) (es xs : List Entry) (n i : ℕ) (d : Entry) (ms seen more : List ℕ) (v : ℕ) → Falls es → All (Coded M) es → xs ≡ es → i < length (take n xs)
+    → length ms ≡ i + 1 → Weighed M es ms i → seen ≡ ms → (Coded M 0 (get_or (take n xs) i d) → v ≡ weighed M seen (get_or (take n xs) i d)) → more ≡ ms ++ v ∷ []
+    → (length more ≡ i + 1 + 1) × Weighed M es more (i + 1)
+weighed_step M es xs n i d ms seen more v fall coded same below long inv is ev grown =
+    let e = get_or (take n xs) i d in
+    let t = taken_at xs n i d e below in
+    let inside : i < length es = omega (arith, t.0, ap length same) in
+    let at : e ≡ get_or es i e = t.1 ∙ ap (λ l. get_or l i e) same in
+    let ce : Coded M 0 e = subst (Coded M 0) (sym at) (coded i e inside) in
+    let w = weighed_on M es i e fall inside at ms long inv v (ev ce ∙ ap (λ l. weighed M l e) is) in
+    (omega (arith, long, ap length grown, length-append ms (v ∷ [])), subst (λ l. Weighed M es l (i + 1)) (sym grown) w)

@@ -7,6 +7,11 @@ abbrev pub Checked : {X : Type 0} → Type 0 → Fault → (X → Type 0) → Re
 Checked P f Q (Ok x) = P × Q x
 Checked P f Q (Err e) = (P → ⊥) × (e ≡ f)
 
+-- accepted exactly where P holds, else the refusal f
+abbrev pub Admits : {X : Type 0} → Type 0 → Fault → Result X Fault → Type 0
+Admits P f (Ok x) = P
+Admits P f (Err e) = (P → ⊥) × (e ≡ f)
+
 -- the refusal e is f where P does not hold, else it is by what follows
 abbrev pub Else : Type 0 → Fault → (Fault → Type 0) → Fault → Type 0
 Else P f rest e = ((P → ⊥) × (e ≡ f)) ⊎ (P × rest e)

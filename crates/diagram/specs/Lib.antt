@@ -1,6 +1,7 @@
 pub mod Answering
 pub mod Checks
 pub mod Counting
+pub mod Equality
 pub mod Filling
 pub mod Letters
 pub mod Listed
@@ -12,3 +13,4 @@ pub mod Orders
 pub mod Places
 pub mod Stores
 pub mod Tables
+pub mod Terms

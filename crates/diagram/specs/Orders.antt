@@ -13,10 +13,6 @@ Ranged ls n = (i : ℕ) → i < n → Letter (slice_index ls i)
 abbrev pub Apart : List ℕ → ℕ → Type 0
 Apart ls n = (i j : ℕ) → (i < j) × (j < n) → slice_index ls i ≢ slice_index ls j
 
--- the letter at place i is from a to p, and none before it is the same
-abbrev pub Fresh : List ℕ → ℕ → Type 0
-Fresh ls i = Letter (slice_index ls i) × ((k : ℕ) → k < i → slice_index ls k ≢ slice_index ls i)
-
 -- an order: 1 to 16 different letters from a to p
 pub record Proper (ls : List ℕ) : Type 0 where
   pub some : 1 ≤ length ls

@@ -1,15 +1,13 @@
 // The coefficient at a monomial.
 ghost use Rattle.std.specs.Prelude.{◌≡◌, ℕ, ◌<◌, ◌≤◌, ◌≢◌, ◌⊎◌, length, MatchBool, MatchResult, slice_index};
 ghost use Rattle.diagram.specs.Checks.{Never};
-ghost use Rattle.diagram.specs.Monomials.{Spent, Used, Unused, CoefficientAt, BadMonomial, Found};
-ghost use Rattle.diagram.specs.Places.{All};
-ghost use Rattle.diagram.specs.Stores.{items};
-ghost use Rattle.diagram.specs.Tables.{Coded, LawfulIn, Kept};
+ghost use Rattle.diagram.specs.Monomials.{Spent, Used, Unused};
+ghost use Rattle.diagram.specs.Terms.{entries_of, letter_count, Lawful, Kept, CoefficientAt, BadMonomial, Found};
 
 use crate::entry::{Edge, Entry, Reference};
-use crate::letters::held;
-use crate::store::Store;
-use crate::table::{Closed, Table};
+use crate::order::MOST_LETTERS;
+use crate::table::Table;
+use arrayvec::ArrayVec;
 use domain::domain::Domain;
 use domain::fault::Fault;
 use domain::number::Number;
@@ -18,12 +16,7 @@ use domain::number::Number;
 fn is_spent(left: &[u8]) -> bool
     ensures { MatchBool result (Spent left.now) ((i : ℕ) × (i < length left.now) × (slice_index left.now i ≢ 0)) }
 {
-    for x in left {
-        if *x != 0 {
-            return false;
-        }
-    }
-    true
+    left.iter().all(|x| *x == 0)
 }
 
 // The edge by which a monomial goes on: the multiplicative one uses up one of the entry's letter.
@@ -39,12 +32,12 @@ fn step(e: Entry, left: &mut [u8]) -> Edge
     }
 }
 
-impl Store {
+impl<D: Domain, S> Table<D, S> {
     // The coefficient of a reference at what is left of a monomial.
-    fn walk<D: Domain>(&self, domain: &D, f: Reference, left: &mut [u8]) -> Result<Number, Fault>
-        requires { f.entry ≤ length (items self.now) }
-        ensures { Kept (D.Domain.model domain.now) (length left.old) (items self.now) → LawfulIn (D.Domain.model domain.now) (items self.now) f
-            → MatchResult result (CoefficientAt (D.Domain.model domain.now) (length left.old) (items self.now) f left.old) (λ _. ⊥) }
+    fn walk(&self, f: Reference, left: &mut [u8]) -> Result<Number, Fault>
+        requires inside { f.entry ≤ length (entries_of self.now) }
+        requires long { length left.old ≡ letter_count self.now }
+        ensures { Kept self.now → Lawful self.now f → MatchResult result (CoefficientAt self.now f left.old) (λ _. ⊥) }
     {
         if f.entry == 0 {
             return Ok(if is_spent(left) {
@@ -53,10 +46,9 @@ impl Store {
                 Number::ZERO
             });
         }
-        let edge = step(self.entries[f.entry - 1], left);
-        let weight = domain.product(f.weight, edge.weight)?;
+        let edge = step(self.store.entries[f.entry - 1], left);
+        let weight = self.domain.product(f.weight, edge.weight)?;
         self.walk(
-            domain,
             Reference {
                 weight,
                 entry: edge.target,
@@ -66,58 +58,18 @@ impl Store {
     }
 
     // The code of the coefficient at the monomial with these exponents, one for each letter.
-    pub(crate) fn coefficient<D: Domain>(
-        &self,
-        domain: &D,
-        letters: usize,
-        f: Reference,
-        exponents: &[u8],
-    ) -> Result<Number, Fault>
-        requires { letters ≤ 16 }
-        ensures refused { All (Coded (D.Domain.model domain.now)) (items self.now)
-            → MatchResult result (λ _. LawfulIn (D.Domain.model domain.now) (items self.now) f × (length exponents.now ≡ letters))
-            (BadMonomial (D.Domain.model domain.now) letters (items self.now) f exponents.now (λ _. Unit {0})) }
-        ensures found { Kept (D.Domain.model domain.now) letters (items self.now)
-            → MatchResult result (Found (D.Domain.model domain.now) letters (items self.now) f exponents.now)
-            (BadMonomial (D.Domain.model domain.now) letters (items self.now) f exponents.now Never) }
+    pub fn coefficient(&self, f: Reference, exponents: &[u8]) -> Result<Number, Fault>
+        ensures refused { MatchResult result (λ _. Lawful self.now f × (length exponents.now ≡ letter_count self.now)) (BadMonomial self.now f exponents.now (λ _. Unit {0})) }
+        ensures found { Kept self.now → MatchResult result (Found self.now f exponents.now) (BadMonomial self.now f exponents.now Never) }
     {
-        self.lawful(domain, f)?;
-        if exponents.len() != letters {
-            return Err(Fault::BadExponents {
+        self.lawful(f)?;
+        match ArrayVec::<u8, MOST_LETTERS>::try_from(exponents) {
+            Ok(mut left) if left.len() == self.order.as_slice().len() => {
+                self.walk(f, left.as_mut_slice())
+            }
+            _ => Err(Fault::BadExponents {
                 given: exponents.len(),
-            });
+            }),
         }
-        let mut left = held(exponents);
-        self.walk(domain, f, &mut left[..letters])
-    }
-}
-
-impl<D: Domain> Table<D> {
-    // The code of the coefficient at the monomial with these exponents, one for each letter.
-    pub fn coefficient(&self, f: Reference, exponents: &[u8]) -> Result<Number, Fault>
-        ensures refused { All (Coded (D.Domain.model self.now.domain)) (items self.now.store)
-            → MatchResult result (λ _. LawfulIn (D.Domain.model self.now.domain) (items self.now.store) f × (length exponents.now ≡ self.now.order.count))
-            (BadMonomial (D.Domain.model self.now.domain) self.now.order.count (items self.now.store) f exponents.now (λ _. Unit {0})) }
-        ensures found { Kept (D.Domain.model self.now.domain) self.now.order.count (items self.now.store)
-            → MatchResult result (Found (D.Domain.model self.now.domain) self.now.order.count (items self.now.store) f exponents.now)
-            (BadMonomial (D.Domain.model self.now.domain) self.now.order.count (items self.now.store) f exponents.now Never) }
-    {
-        self.store
-            .coefficient(&self.domain, self.order.count, f, exponents)
-    }
-}
-
-impl<D: Domain> Closed<D> {
-    // The code of the coefficient at the monomial with these exponents, one for each letter.
-    pub fn coefficient(&self, f: Reference, exponents: &[u8]) -> Result<Number, Fault>
-        ensures refused { All (Coded (D.Domain.model self.now.domain)) (items self.now.store)
-            → MatchResult result (λ _. LawfulIn (D.Domain.model self.now.domain) (items self.now.store) f × (length exponents.now ≡ self.now.order.count))
-            (BadMonomial (D.Domain.model self.now.domain) self.now.order.count (items self.now.store) f exponents.now (λ _. Unit {0})) }
-        ensures found { Kept (D.Domain.model self.now.domain) self.now.order.count (items self.now.store)
-            → MatchResult result (Found (D.Domain.model self.now.domain) self.now.order.count (items self.now.store) f exponents.now)
-            (BadMonomial (D.Domain.model self.now.domain) self.now.order.count (items self.now.store) f exponents.now Never) }
-    {
-        self.store
-            .coefficient(&self.domain, self.order.count, f, exponents)
     }
 }

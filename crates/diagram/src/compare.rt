@@ -1,61 +1,26 @@
 // Comparing two references.
-ghost use Rattle.std.specs.Prelude.{◌≡◌, ℕ, IfOk, MatchResult};
-ghost use Rattle.diagram.specs.Answering.{Tells, Agree, Compared, UnlawfulOf};
-ghost use Rattle.diagram.specs.Places.{All};
-ghost use Rattle.diagram.specs.Stores.{items};
-ghost use Rattle.diagram.specs.Tables.{Coded, Kept};
+ghost use Rattle.std.specs.Prelude.{IfOk, MatchResult};
+ghost use Rattle.diagram.specs.Answering.{Tells};
+ghost use Rattle.diagram.specs.Terms.{Agree, Compared, UnlawfulOf, Kept};
 
 use crate::comparison::Comparison;
 use crate::entry::Reference;
-use crate::find::Same;
-use crate::store::Store;
-use crate::table::{Closed, Table};
+use crate::table::Table;
 use domain::domain::Domain;
 use domain::fault::Fault;
 
-impl Store {
+impl<D: Domain, S> Table<D, S> {
     // Whether two references stand for the same polynomial.
-    pub(crate) fn compare<D: Domain>(
-        &self,
-        domain: &D,
-        f: Reference,
-        g: Reference,
-    ) -> Result<Comparison, Fault>
-        ensures compared { All (Coded (D.Domain.model domain.now)) (items self.now)
-            → MatchResult result (Compared (D.Domain.model domain.now) (items self.now) f g) (UnlawfulOf (D.Domain.model domain.now) (items self.now) f g) }
-        ensures canonical { (k : ℕ) → Kept (D.Domain.model domain.now) k (items self.now)
-            → IfOk result (Tells (Agree (D.Domain.model domain.now) k (items self.now) f g)) }
+    pub fn compare(&self, f: Reference, g: Reference) -> Result<Comparison, Fault>
+        ensures compared { MatchResult result (Compared self.now f g) (UnlawfulOf self.now f g) }
+        ensures canonical { Kept self.now → IfOk result (Tells (Agree self.now f g)) }
     {
-        self.lawful(domain, f)?;
-        self.lawful(domain, g)?;
-        Ok(if f.same(&g) {
+        self.lawful(f)?;
+        self.lawful(g)?;
+        Ok(if f == g {
             Comparison::Equal
         } else {
             Comparison::Different
         })
-    }
-}
-
-impl<D: Domain> Table<D> {
-    // Whether two references stand for the same polynomial.
-    pub fn compare(&self, f: Reference, g: Reference) -> Result<Comparison, Fault>
-        ensures compared { All (Coded (D.Domain.model self.now.domain)) (items self.now.store)
-            → MatchResult result (Compared (D.Domain.model self.now.domain) (items self.now.store) f g) (UnlawfulOf (D.Domain.model self.now.domain) (items self.now.store) f g) }
-        ensures canonical { Kept (D.Domain.model self.now.domain) self.now.order.count (items self.now.store)
-            → IfOk result (Tells (Agree (D.Domain.model self.now.domain) self.now.order.count (items self.now.store) f g)) }
-    {
-        self.store.compare(&self.domain, f, g)
-    }
-}
-
-impl<D: Domain> Closed<D> {
-    // Whether two references stand for the same polynomial.
-    pub fn compare(&self, f: Reference, g: Reference) -> Result<Comparison, Fault>
-        ensures compared { All (Coded (D.Domain.model self.now.domain)) (items self.now.store)
-            → MatchResult result (Compared (D.Domain.model self.now.domain) (items self.now.store) f g) (UnlawfulOf (D.Domain.model self.now.domain) (items self.now.store) f g) }
-        ensures canonical { Kept (D.Domain.model self.now.domain) self.now.order.count (items self.now.store)
-            → IfOk result (Tells (Agree (D.Domain.model self.now.domain) self.now.order.count (items self.now.store) f g)) }
-    {
-        self.store.compare(&self.domain, f, g)
     }
 }

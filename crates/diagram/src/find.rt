@@ -1,56 +1,40 @@
 // Finding an equal item in a list.
-ghost use Rattle.std.specs.Prelude.{◌≡◌, MatchBool, ◌≢◌};
+ghost use Rattle.std.specs.Prelude.{◌≡◌};
+ghost use Rattle.std.specs.Bool.{Decides};
+ghost use Rattle.diagram.specs.Equality.{decides_byte, decides_number, decides_edge, decides_entry, decides_reference};
 ghost use Rattle.diagram.specs.Places.{Located};
 
 use crate::entry::{Edge, Entry, Reference};
 use domain::number::Number;
 
-// Equality.
-pub trait Same {
-    fn same(&self, other: &Self) -> bool
-        ensures { MatchBool result (self.now ≡ other.now) (self.now ≢ other.now) };
+// Equality that holds of the same items alone.
+pub trait Exact: Eq {
+    ghost exact: { (x y : Self) → Decides (Self.PartialEq.eq x y) (x ≡ y) };
 }
 
-impl Same for u8 {
-    fn same(&self, other: &u8) -> bool {
-        *self == *other
-    }
+impl Exact for u8 {
+    ghost exact = { decides_byte };
 }
 
-impl Same for Number {
-    fn same(&self, other: &Number) -> bool {
-        self.int == other.int
-    }
+impl Exact for Number {
+    ghost exact = { decides_number };
 }
 
-impl Same for Edge {
-    fn same(&self, other: &Edge) -> bool {
-        self.weight.same(&other.weight) && self.target == other.target
-    }
+impl Exact for Edge {
+    ghost exact = { decides_edge };
 }
 
-impl Same for Entry {
-    fn same(&self, other: &Entry) -> bool {
-        self.letter == other.letter
-            && self.additive.same(&other.additive)
-            && self.multiplicative.same(&other.multiplicative)
-    }
+impl Exact for Entry {
+    ghost exact = { decides_entry };
 }
 
-impl Same for Reference {
-    fn same(&self, other: &Reference) -> bool {
-        self.weight.same(&other.weight) && self.entry == other.entry
-    }
+impl Exact for Reference {
+    ghost exact = { decides_reference };
 }
 
 // The first place of x.
-pub fn position<T: Same>(items: &[T], x: &T) -> Option<usize>
+pub fn position<T: Exact>(items: &[T], x: &T) -> Option<usize>
     ensures { Located items.now x.now result }
 {
-    for (i, y) in items.iter().enumerate() {
-        if y.same(x) {
-            return Some(i);
-        }
-    }
-    None
+    items.iter().position(|y| *y == *x)
 }

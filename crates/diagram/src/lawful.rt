@@ -1,53 +1,52 @@
 // Lawful references.
-ghost use Rattle.std.specs.Prelude.{◌≡◌, ℕ, ◌≤◌, true, length, MatchBool, MatchResult};
+ghost use Rattle.std.specs.Prelude.{◌*◌, ◌≤◌, length};
+ghost use Rattle.std.specs.Bool.{Decides};
 ghost use Rattle.domain.specs.declared.fault.Fault.TheVariants.{Unlawful};
-ghost use Rattle.diagram.specs.Checks.{Checked};
-ghost use Rattle.diagram.specs.Places.{All};
-ghost use Rattle.diagram.specs.Stores.{items};
-ghost use Rattle.diagram.specs.Tables.{Coded, LightIn, LawfulIn};
+ghost use Rattle.diagram.specs.Checks.{Admits};
+ghost use Rattle.diagram.specs.Terms.{model_of, entries_of, entry_mass, Light, Lawful};
 
 use crate::entry::Reference;
-use crate::store::Store;
+use crate::table::Table;
 use domain::domain::Domain;
 use domain::fault::Fault;
 
-impl Store {
-    // Whether the weight is a code and the mass within the limit.
-    fn is_light<D: Domain>(&self, domain: &D, f: Reference) -> bool
-        requires { f.entry ≤ length (items self.now) }
-        ensures coded { MatchBool result ((D.Domain.model domain.now).coded f.weight ≡ true) (Unit {0}) }
-        ensures light { All (Coded (D.Domain.model domain.now)) (items self.now)
-            → MatchBool result (LightIn (D.Domain.model domain.now) (items self.now) f) (LightIn (D.Domain.model domain.now) (items self.now) f → ⊥) }
+impl<D: Domain, S> Table<D, S> {
+    // Whether a size times the mass of an entry is within the limit.
+    fn is_within(&self, size: u32, n: usize) -> bool
+        requires { n ≤ length (entries_of self.now) }
+        ensures { Decides result (size * entry_mass self.now n ≤ (model_of self.now).limit) }
     {
-        match domain.size(f.weight) {
-            Ok(size) => size.saturating_mul(self.mass(domain, f.entry)) <= domain.limit(),
-            Err(_) => false,
-        }
+        size.saturating_mul(self.mass(n)) <= self.domain.limit()
+    }
+
+    // Whether the weight is a code and the mass within the limit.
+    fn is_light(&self, f: Reference) -> bool
+        requires { f.entry ≤ length (entries_of self.now) }
+        ensures { Decides result (Light self.now f) }
+    {
+        self.domain
+            .size(f.weight)
+            .is_ok_and(|size| self.is_within(size, f.entry))
     }
 
     // Whether a reference is lawful.
-    fn is_lawful<D: Domain>(&self, domain: &D, f: Reference) -> bool
-        ensures coded { MatchBool result ((D.Domain.model domain.now).coded f.weight ≡ true) (Unit {0}) }
-        ensures inside { MatchBool result (f.entry ≤ length (items self.now)) (Unit {0}) }
-        ensures lawful { All (Coded (D.Domain.model domain.now)) (items self.now)
-            → MatchBool result (LawfulIn (D.Domain.model domain.now) (items self.now) f) (LawfulIn (D.Domain.model domain.now) (items self.now) f → ⊥) }
+    fn is_lawful(&self, f: Reference) -> bool
+        ensures { Decides result (Lawful self.now f) }
     {
-        if f.entry > self.entries.len() {
+        if f.entry > self.store.entries.len() {
             return false;
         }
         if f.weight.is_zero() {
             return f.entry == 0;
         }
-        self.is_light(domain, f)
+        self.is_light(f)
     }
 
     // Refuses a reference that is not lawful.
-    pub(crate) fn lawful<D: Domain>(&self, domain: &D, f: Reference) -> Result<(), Fault>
-        ensures fault { MatchResult result (λ _. ((D.Domain.model domain.now).coded f.weight ≡ true) × (f.entry ≤ length (items self.now))) (λ e. e ≡ Unlawful f.entry) }
-        ensures checked { All (Coded (D.Domain.model domain.now)) (items self.now)
-            → Checked (LawfulIn (D.Domain.model domain.now) (items self.now) f) (Unlawful f.entry) (λ _. Unit {0}) result }
+    pub(crate) fn lawful(&self, f: Reference) -> Result<(), Fault>
+        ensures { Admits (Lawful self.now f) (Unlawful f.entry) result }
     {
-        if self.is_lawful(domain, f) {
+        if self.is_lawful(f) {
             Ok(())
         } else {
             Err(Fault::Unlawful { entry: f.entry })

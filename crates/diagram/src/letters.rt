@@ -1,59 +1,35 @@
 // Reading a letter order, and finding a letter in it.
-ghost use Rattle.std.specs.Prelude.{◌≡◌, ℕ, ◌<◌, ◌≤◌, length, MatchBool, slice_index};
-ghost use Rattle.domain.specs.declared.fault.Fault.TheVariants.{BadOrder, UnknownLetter};
+ghost use Rattle.std.specs.Prelude.{◌≡◌, ◌<◌, length, [], ◌∷◌};
+ghost use Rattle.std.specs.Bool.{Decides};
+ghost use Rattle.domain.specs.declared.fault.Fault.TheVariants.{BadOrder};
 ghost use Rattle.diagram.specs.Checks.{Checked};
-ghost use Rattle.diagram.specs.Orders.{Letter, Fresh, Proper};
+ghost use Rattle.diagram.specs.Orders.{Letter, Proper};
 ghost use Rattle.diagram.specs.Listed.{listed, Placed};
 
 use crate::find::position;
-use crate::order::Order;
+use crate::order::{MOST_LETTERS, Order};
 use domain::fault::Fault;
 
 // Whether a byte is a letter from a to p.
 fn is_letter(x: u8) -> bool
-    ensures { MatchBool result (Letter x) (Letter x → ⊥) }
+    ensures { Decides result (Letter x) }
 {
-    b'a' <= x && x <= b'p'
-}
-
-// Whether the letter at place i is from a to p and none before it is the same.
-fn fits(letters: &[u8], i: usize) -> bool
-    requires { i < length letters.now }
-    ensures { MatchBool result (Fresh letters.now i) (Fresh letters.now i → ⊥) }
-{
-    let x = letters[i];
-    match position(&letters[..i], &x) {
-        None => is_letter(x),
-        Some(_) => false,
-    }
+    matches!(x, b'a'..=b'p')
 }
 
 // Whether the bytes are an order.
 fn is_proper(letters: &[u8]) -> bool
-    ensures { MatchBool result (Proper letters.now) (Proper letters.now → ⊥) }
+    ensures { Decides result (Proper letters.now) }
 {
-    if letters.is_empty() || letters.len() > 16 {
+    if letters.is_empty() || letters.len() > MOST_LETTERS {
         return false;
     }
-    for i in 0..letters.len() {
-        if !fits(letters, i) {
+    for (i, x) in letters.iter().enumerate() {
+        if !is_letter(*x) || position(&letters[..i], x).is_some() {
             return false;
         }
     }
     true
-}
-
-// The letters at the first places of an array.
-pub(crate) fn held(letters: &[u8]) -> [u8; 16]
-    requires { length letters.now ≤ 16 }
-    ensures full { length result ≡ 16 }
-    ensures same { (k : ℕ) → k < length letters.now → slice_index result k ≡ slice_index letters.now k }
-{
-    let mut all = [0; 16];
-    for (i, x) in letters.iter().enumerate() {
-        all[i] = *x;
-    }
-    all
 }
 
 impl Order {
@@ -66,17 +42,36 @@ impl Order {
                 letters: letters.len(),
             });
         }
+        let mut held = [0; MOST_LETTERS];
+        held[..letters.len()].copy_from_slice(letters);
         Ok(Order {
-            letters: held(letters),
+            letters: held,
             count: letters.len(),
         })
+    }
+
+    // The order of the letter a alone.
+    pub(crate) fn first() -> Order
+        ensures { listed result ≡ 97 ∷ [] }
+    {
+        let mut letters = [0; MOST_LETTERS];
+        letters[0] = b'a';
+        Order { letters, count: 1 }
+    }
+
+    // The letters, the highest first.
+    pub(crate) fn as_slice(&self) -> &[u8]
+        ensures { result.now ≡ listed self.now }
+    {
+        &self.letters[..self.count]
     }
 
     // The place of a letter in the order.
     pub fn place(&self, letter: u8) -> Result<u8, Fault>
         ensures { Placed (listed self.now) letter result }
     {
-        match position(&self.letters[..self.count], &letter) {
+        match position(self.as_slice(), &letter) {
+            // by `as`: a place is below 16, and `try_from` would have an `Err` that never comes
             Some(i) => Ok(i as u8),
             None => Err(Fault::UnknownLetter { letter }),
         }

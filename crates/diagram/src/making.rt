@@ -1,39 +1,25 @@
 // Making and closing tables.
-ghost use Rattle.std.specs.Prelude.{◌≡◌, ℕ, ◌≤◌, [], ◌∷◌, IfOk, MatchResult};
+ghost use Rattle.std.specs.Prelude.{◌≡◌, [], ◌∷◌, IfOk, MatchResult};
 ghost use Rattle.domain.specs.declared.fault.Fault.TheVariants.{Memory};
-ghost use Rattle.diagram.specs.Listed.{listed};
-ghost use Rattle.diagram.specs.Making.{Capacity, Made, BadMaking};
+ghost use Rattle.diagram.specs.Making.{Capacity, BadMaking};
 ghost use Rattle.diagram.specs.Orders.{Proper};
 ghost use Rattle.diagram.specs.Stores.{items};
-ghost use Rattle.diagram.specs.Tables.{Kept};
+ghost use Rattle.diagram.specs.Terms.{Made, Kept};
 
 use crate::order::Order;
-use crate::store::Store;
-use crate::table::{Closed, Table};
+use crate::store::{MOST_ENTRIES, Store};
+use crate::table::{Closed, Open, Table};
 use domain::domain::Domain;
 use domain::fault::Fault;
 use std::alloc::{AllocError, Global};
-
-// The most entries of a table.
-const MOST: usize = 1024;
-
-impl Order {
-    // The order of the letter a alone.
-    fn first() -> Order
-        ensures { listed result ≡ 97 ∷ [] }
-    {
-        let mut letters = [0; 16];
-        letters[0] = b'a';
-        Order { letters, count: 1 }
-    }
-}
+use std::marker::PhantomData;
 
 impl Store {
     // No entries, and the memory for as many as any table has.
     fn first(heap: Global) -> Result<Store, AllocError>
         ensures { IfOk result (λ s. (items s ≡ []) × (s.capacity ≡ 1)) }
     {
-        let entries = Vec::with_capacity(heap, MOST)?;
+        let entries = Vec::with_capacity(heap, MOST_ENTRIES)?;
         Ok(Store {
             entries,
             capacity: 1,
@@ -51,33 +37,32 @@ impl Store {
     }
 }
 
-impl<D: Domain + Drop> Table<D> {
+impl<D: Domain + Drop> Table<D, Open> {
     // A first table, of order a and capacity 1.
-    pub fn first(heap: Global, domain: D) -> Result<Table<D>, Fault>
-        ensures made { MatchResult result (λ t. (t.domain ≡ domain) × Made (97 ∷ []) 1 t.order t.store) (λ e. e ≡ Memory) }
-        ensures kept { MatchResult result (λ t. Kept (D.Domain.model t.domain) t.order.count (items t.store)) (λ e. e ≡ Memory) }
+    pub fn first(heap: Global, domain: D) -> Result<Table<D, Open>, Fault>
+        ensures made { MatchResult result (λ t. (t.domain ≡ domain) × Made (97 ∷ []) 1 t) (λ e. e ≡ Memory) }
+        ensures kept { IfOk result (λ t. Kept t) }
     {
         let store = Store::first(heap)?;
         Ok(Table {
             domain,
             order: Order::first(),
             store,
+            state: PhantomData,
         })
     }
 }
 
-impl<D: Domain> Table<D> {
+impl<D: Domain> Table<D, Open> {
     // Entry 0 only, with another order and capacity.
     pub fn make(&mut self, letters: &[u8], capacity: usize) -> Result<(), Fault>
         ensures made { MatchResult result
-            (λ _. Proper letters.now × Capacity capacity × (self.new.domain ≡ self.old.domain) × Made letters.now capacity self.new.order self.new.store)
+            (λ _. Proper letters.now × Capacity capacity × (self.new.domain ≡ self.old.domain) × Made letters.now capacity self.new)
             (λ e. (self.new ≡ self.old) × BadMaking letters.now capacity e) }
-        ensures kept { MatchResult result
-            (λ _. Kept (D.Domain.model self.new.domain) self.new.order.count (items self.new.store))
-            (λ e. self.new ≡ self.old) }
+        ensures kept { IfOk result (λ _. Kept self.new) }
     {
         let order = Order::read(letters)?;
-        if capacity < 1 || capacity > MOST {
+        if capacity < 1 || capacity > MOST_ENTRIES {
             return Err(Fault::BadCapacity { asked: capacity });
         }
         self.order = order;
@@ -86,15 +71,16 @@ impl<D: Domain> Table<D> {
     }
 
     // The same table, closed.
-    pub fn close(self) -> Closed<D>
+    pub fn close(self) -> Table<D, Closed>
         ensures domain { result.domain ≡ self.domain }
         ensures order { result.order ≡ self.order }
         ensures store { result.store ≡ self.store }
     {
-        Closed {
+        Table {
             domain: self.domain,
             order: self.order,
             store: self.store,
+            state: PhantomData,
         }
     }
 }

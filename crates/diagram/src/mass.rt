@@ -1,54 +1,50 @@
-// Mass, and lawful references.
-ghost use Rattle.std.specs.Prelude.{◌≡◌, ℕ, ◌+◌, ◌-◌, ◌*◌, ◌^◌, ◌<◌, ◌≤◌, min, true, length, Ok, Err};
-ghost use Rattle.domain.specs.declared.fault.Fault.TheVariants.{Unlawful};
-ghost use Rattle.polynomial.specs.Trees.{tree_mass};
-ghost use Rattle.diagram.specs.Checks.{Checked};
-ghost use Rattle.diagram.specs.Places.{All};
-ghost use Rattle.diagram.specs.Stores.{items};
-ghost use Rattle.diagram.specs.Tables.{tree, Coded, LawfulIn};
-ghost use Rattle.diagram.specs.Masses.{weighed};
+// Mass, by one pass over the entries.
+ghost use Rattle.std.specs.Prelude.{◌≡◌, ◌<◌, ◌≤◌, true, length};
+ghost use Rattle.diagram.specs.Tables.{Coded};
+ghost use Rattle.diagram.specs.Masses.{capped, weighed};
+ghost use Rattle.diagram.specs.Terms.{model_of, entries_of, entry_mass};
 
-use crate::entry::{Entry, Reference};
-use crate::store::Store;
+use crate::entry::Entry;
+use crate::store::MOST_NUMBERS;
+use crate::table::Table;
+use arrayvec::ArrayVec;
 use domain::domain::Domain;
-use domain::fault::Fault;
 use domain::number::Number;
 
-// The size of a code's element.
-fn size_of<D: Domain>(domain: &D, a: Number) -> u32
-    ensures { (D.Domain.model domain.now).coded a ≡ true → result ≡ (D.Domain.model domain.now).size ((D.Domain.model domain.now).value a) }
-{
-    match domain.size(a) {
-        Ok(size) => size,
-        Err(_) => 0,
-    }
-}
-
-// The mass of an entry from the masses of those before it. Masses past the range stop at its end.
-fn weigh<D: Domain>(domain: &D, masses: &[u32], e: Entry) -> u32
-    requires left { e.additive.target < length masses.now }
-    requires right { e.multiplicative.target < length masses.now }
-    ensures { Coded (D.Domain.model domain.now) 0 e → result ≡ weighed (D.Domain.model domain.now) masses.now e }
-{
-    let low = size_of(domain, e.additive.weight).saturating_mul(masses[e.additive.target]);
-    let high = size_of(domain, e.multiplicative.weight).saturating_mul(
-        masses[e.multiplicative.target],
-    );
-    low.saturating_add(high)
-}
-
-impl Store {
-    // The mass of an entry, by one pass over the entries before it.
-    pub(crate) fn mass<D: Domain>(&self, domain: &D, n: usize) -> u32
-        requires { n ≤ length (items self.now) }
-        ensures { All (Coded (D.Domain.model domain.now)) (items self.now) → result ≡ min (tree_mass (D.Domain.model domain.now) (tree (D.Domain.model domain.now) (items self.now) n)) 4294967295 }
+impl<D: Domain, S> Table<D, S> {
+    // The size of a code's element.
+    fn size_of(&self, a: Number) -> u32
+        ensures { (model_of self.now).coded a ≡ true → result ≡ (model_of self.now).size ((model_of self.now).value a) }
     {
-        let mut masses = [0; 1025];
-        masses[0] = size_of(domain, Number::ONE);
-        for i in 0..n {
-            let e = self.entries[i];
-            masses[i + 1] = weigh(domain, &masses, e);
+        self.domain.size(a).unwrap_or(0)
+    }
+
+    // The mass of an entry from the masses of those before it. Masses past the range stop at its end.
+    fn weigh(&self, masses: &[u32], e: Entry) -> u32
+        requires left { e.additive.target < length masses.now }
+        requires right { e.multiplicative.target < length masses.now }
+        ensures { Coded (model_of self.now) 0 e → result ≡ weighed (model_of self.now) masses.now e }
+    {
+        let low = self
+            .size_of(e.additive.weight)
+            .saturating_mul(masses[e.additive.target]);
+        let high = self
+            .size_of(e.multiplicative.weight)
+            .saturating_mul(masses[e.multiplicative.target]);
+        low.saturating_add(high)
+    }
+
+    // The mass of an entry. That the number is the table's is asked here and not of a type: it depends on the table.
+    pub(crate) fn mass(&self, n: usize) -> u32
+        requires { n ≤ length (entries_of self.now) }
+        ensures { result ≡ capped (entry_mass self.now n) }
+    {
+        let mut masses: ArrayVec<u32, MOST_NUMBERS> = ArrayVec::new();
+        masses.push(self.size_of(Number::ONE));
+        for e in &self.store.entries[..n] {
+            let mass = self.weigh(masses.as_slice(), *e);
+            masses.push(mass);
         }
-        masses[n]
+        masses.as_slice()[n]
     }
 }

@@ -1,52 +1,52 @@
 // Finding an entry, or appending it where it is missing.
-ghost use Rattle.std.specs.Prelude.{◌≡◌, ℕ, ◌<◌, ◌≤◌, true, length, IfErr, MatchResult, OnErr};
+ghost use Rattle.std.specs.Prelude.{◌≡◌, ◌<◌, ◌≤◌, true, length, IfErr, MatchResult, OnErr};
 ghost use Rattle.domain.specs.declared.fault.Fault.TheVariants.{Full};
-ghost use Rattle.diagram.specs.Nodes.{Moved, Interned, Joins, Wanted, Joined, Denied};
 ghost use Rattle.diagram.specs.Places.{Lower};
-ghost use Rattle.diagram.specs.Stores.{items};
+ghost use Rattle.diagram.specs.Tables.{Coded};
+ghost use Rattle.diagram.specs.Terms.{model_of, entries_of, capacity_of, SameFrame, Moved, Interned, Joins, Wanted, Joined, Denied};
 
 use crate::entry::{Edge, Entry, Reference};
 use crate::find::position;
-use crate::store::Store;
+use crate::table::{Open, Table};
 use domain::domain::Domain;
 use domain::fault::Fault;
 
-impl Store {
+impl<D: Domain> Table<D, Open> {
     // The number of an entry, which is appended if it is missing.
     pub(crate) fn intern(&mut self, e: Entry) -> Result<usize, Fault>
-        requires { Lower (length (items self.old)) e }
-        ensures room { self.new.capacity ≡ self.old.capacity }
-        ensures interned { Interned (items self.old) (items self.new) self.old.capacity e result }
+        requires lower { Lower (length (entries_of self.old)) e }
+        requires coded { Coded (model_of self.old) 0 e }
+        ensures frame { SameFrame self.old self.new }
+        ensures interned { Interned self.old self.new e result }
         ensures refused { OnErr result (self.new ≡ self.old) }
     {
-        match position(self.entries.as_slice(), &e) {
-            Some(i) => Ok(i + 1),
-            None => self.append(e),
+        if let Some(i) = position(self.store.entries.as_slice(), &e) {
+            return Ok(i + 1);
         }
+        self.store.need_room()?;
+        Ok(self.store.push(e))
     }
 
     // The reference of `low` plus the letter times `high`. What their weights have in common goes in front.
-    pub(crate) fn node<D: Domain>(
+    pub(crate) fn node(
         &mut self,
-        domain: &D,
         letter: u8,
         low: Reference,
         high: Reference,
     ) -> Result<Reference, Fault>
-        requires low { low.entry ≤ length (items self.old) }
-        requires high { high.entry ≤ length (items self.old) }
-        ensures room { self.new.capacity ≡ self.old.capacity }
-        ensures moved { MatchResult result (λ v. Moved (items self.old) (items self.new) × (v.entry ≤ length (items self.new))) (λ _. self.new ≡ self.old) }
-        ensures full { (D.Domain.model domain.now).coded low.weight ≡ true → (D.Domain.model domain.now).coded high.weight ≡ true
-            → IfErr result (λ e. (e ≡ Full self.old.capacity) × (length (items self.old) < self.old.capacity → ⊥)) }
-        ensures joined { (k : ℕ) → Joins (D.Domain.model domain.now) k (items self.old) letter low high
-            → MatchResult result (Joined (D.Domain.model domain.now) k self.old.capacity (items self.old) (items self.new) letter low high)
-            (Denied (D.Domain.model domain.now) self.old.capacity (items self.old) (Wanted (D.Domain.model domain.now) (items self.old) letter low high)) }
+        requires low { low.entry ≤ length (entries_of self.old) }
+        requires high { high.entry ≤ length (entries_of self.old) }
+        ensures frame { SameFrame self.old self.new }
+        ensures moved { MatchResult result (λ v. Moved self.old self.new × (v.entry ≤ length (entries_of self.new))) (λ _. self.new ≡ self.old) }
+        ensures full { (model_of self.old).coded low.weight ≡ true → (model_of self.old).coded high.weight ≡ true
+            → IfErr result (λ e. (e ≡ Full (capacity_of self.old)) × (length (entries_of self.old) < capacity_of self.old → ⊥)) }
+        ensures joined { Joins self.old letter low high
+            → MatchResult result (Joined self.old self.new letter low high) (Denied self.old (Wanted self.old letter low high)) }
     {
         if high.weight.is_zero() {
             return Ok(low);
         }
-        let (weight, p, q) = domain.factor(low.weight, high.weight)?;
+        let (weight, p, q) = self.domain.factor(low.weight, high.weight)?;
         let additive = Edge {
             weight: p,
             target: low.entry,

@@ -1,14 +1,16 @@
 // Letter orders.
-ghost use Rattle.std.specs.Prelude.{◌≤◌};
-ghost use Rattle.diagram.specs.Orders.{Ranged, Apart};
+ghost use Rattle.std.specs.Prelude.{◌≤◌, take};
+ghost use Rattle.diagram.specs.Orders.{Proper};
 
-// 1 to 16 different letters from a to p, the highest first, at the first places of the array.
+// The most letters of an order.
+pub(crate) const MOST_LETTERS: usize = 16;
+
+// 1 to 16 different letters from a to p, the highest first, at the first places of the array. It is no vector of fixed
+// capacity, since an order is `Copy` and such a vector is not.
 #[derive(Clone, Copy)]
 pub struct Order {
-    pub(crate) letters: [u8; 16],
+    pub(crate) letters: [u8; MOST_LETTERS],
     pub(crate) count: usize,
-    ghost some: { 1 ≤ count },
     ghost few: { count ≤ 16 },
-    ghost ranged: { Ranged letters count },
-    ghost apart: { Apart letters count },
+    ghost proper: { Proper (take count letters) },
 }

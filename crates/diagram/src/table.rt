@@ -1,20 +1,27 @@
 // Tables of polynomials over a domain.
+ghost use Rattle.diagram.specs.Places.{All};
+ghost use Rattle.diagram.specs.Tables.{Coded};
+
 use crate::order::Order;
 use crate::store::Store;
 use domain::domain::Domain;
+use std::marker::PhantomData;
 
-// An open table, which may grow.
+// The state of a table that may grow.
+#[derive(Clone, Copy)]
+pub struct Open;
+
+// The state of a table that stays as it is.
+#[derive(Clone, Copy)]
+pub struct Closed;
+
+// A table in one of the two states. Every weight of its entries is a code. That a table is kept is no ghost field, but a
+// premise where it is needed: a table filled by hand need not be.
 #[derive(Drop)]
-pub struct Table<D: Domain> {
+pub struct Table<D: Domain, S> {
     pub(crate) domain: D,
     pub(crate) order: Order,
     pub(crate) store: Store,
-}
-
-// A closed table, which stays as it is.
-#[derive(Drop)]
-pub struct Closed<D: Domain> {
-    pub(crate) domain: D,
-    pub(crate) order: Order,
-    pub(crate) store: Store,
+    pub(crate) state: PhantomData<S>,
+    pub ghost coded: { All (Coded (D.Domain.model domain)) store.entries.items },
 }

@@ -1,5 +1,6 @@
 -- A model of an operation under a capacity: it is refused exactly when it has to be.
-use Rattle.std.proofs.Common.{◌≡◌, ℕ, suc, ◌<◌, ◌≤◌, Bool, true, false, List, [], ◌∷◌, ◌++◌, length, sym, refl, ap, ◌∙◌, subst, ap₂, inl, inr, true≢false, append-nil, arith, length-append}
+use Rattle.std.proofs.Common.{◌≡◌, ℕ, suc, ◌<◌, ◌≤◌, Bool, true, false, List, [], ◌∷◌, ◌++◌, length, sym, refl, ap, ◌∙◌, subst, ap₂, inl, inr, append-nil, arith, length-append}
+use Rattle.std.proofs.lemmas.Bool.{false≢true}
 use native.Mathlib.Decide.{dec_lt}
 use Rattle.polynomial.specs.Diagrams.{Inside}
 use Rattle.polynomial.specs.Entries.{Entry, look, stands, trees}
@@ -63,9 +64,6 @@ module _ {E : Type 0} (capacity : ℕ) where
       pub there : ok ≡ true → r ≤ length (trees es')
       pub looks : ok ≡ true → look (trees es') r ≡ t
 
-    absurd_true : {A : Type 0} → false ≡ true → A
-    absurd_true e = absurd (true≢false (sym e))
-
     module _ (x : ℕ) (p : E) (m : Tree E) (q : E) (n : Tree E) (es₀ es₁ es₂ : List (Entry E)) (lo hi : ℕ) (A : Outcome capacity es₀ es₁ (λ s. Inside s m) true) (B : Outcome capacity es₁ es₂ (λ s. Inside s n) true) (at_lo : look (trees es₂) lo ≡ m) (at_hi : look (trees es₂) hi ≡ n) where
       abbrev e : Entry E
       e = record { letter = x; p = p; lo = lo; q = q; hi = hi }
@@ -95,8 +93,8 @@ module _ {E : Type 0} (capacity : ℕ) where
             es' = es₂;
             r = 0;
             outcome = done_node x p m q n es₀ es₁ es₂ es₂ false A B (full_one es₂ (node x p m q n) d h (omega arith));
-            there = λ z. absurd_true z;
-            looks = λ z. absurd_true z;
+            there = λ z. absurd (false≢true z);
+            looks = λ z. absurd (false≢true z);
           }
           go (no h) (yes c) =
               let es₃ = es₂ ++ (e ∷ []) in
@@ -121,8 +119,8 @@ module _ {E : Type 0} (capacity : ℕ) where
           es' = B.es';
           r = 0;
           outcome = stopped_high x p m q n es A.es' B.es' O (subst (Outcome capacity A.es' B.es' (λ s. Inside s n)) e B.outcome);
-          there = λ z. absurd_true z;
-          looks = λ z. absurd_true z;
+          there = λ z. absurd (false≢true z);
+          looks = λ z. absurd (false≢true z);
         }
         high O a B true e =
             let Q = subst (Outcome capacity A.es' B.es' (λ s. Inside s n)) e B.outcome in
@@ -137,8 +135,8 @@ module _ {E : Type 0} (capacity : ℕ) where
           es' = A.es';
           r = 0;
           outcome = stopped_low x p m q n es A.es' (subst (Outcome capacity es A.es' (λ s. Inside s m)) e A.outcome);
-          there = λ z. absurd_true z;
-          looks = λ z. absurd_true z;
+          there = λ z. absurd (false≢true z);
+          looks = λ z. absurd (false≢true z);
         }
         low true e =
             let O = subst (Outcome capacity es A.es' (λ s. Inside s m)) e A.outcome in

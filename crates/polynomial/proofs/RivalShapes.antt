@@ -1,7 +1,8 @@
 -- No list of entries that stands for a polynomial has fewer than its diagram, and some list has as many.
-use Rattle.std.proofs.Common.{◌≡◌, ℕ, zero, suc, ◌<◌, ◌≤◌, List, [], ◌∷◌, ◌++◌, map, length, sym, refl, ap, ◌∙◌, subst, ap₂, arith}
+use Rattle.std.proofs.Common.{◌≡◌, ℕ, zero, suc, ◌<◌, ◌≤◌, List, [], ◌∷◌, ◌++◌, map, sym, refl, ap, ◌∙◌, subst, ap₂, arith}
 use mathlib.Core.List.{map-append}
 use lib.ListN.{get_or-map}
+use Rattle.std.proofs.lemmas.List.{length-map}
 use Rattle.domain.specs.Ring.{Ring}
 use Rattle.polynomial.proofs.Shapes.{Sits, ShapeAfter}
 use Rattle.polynomial.specs.Entries.{Entry, look, stands, trees_after, trees}
@@ -34,16 +35,12 @@ at-look : {E : Type 0} (ts : List (Tree E)) (i : ℕ) → at leaf ts i ≡ look 
 at-look ts zero = refl
 at-look ts (suc i) = refl
 
-mapped_length : {A B : Type 0} (f : A → B) (l : List A) → length (map f l) ≡ length l
-mapped_length f [] = refl
-mapped_length f (a ∷ l) = ap suc (mapped_length f l)
-
 module _ {E : Type 0} (k : ℕ) where
   sits : (ts : List (Tree E)) (e : Entry E) → Placed k (map (first k) ts) e → Sits k ts e
   sits ts e h = record {
     known = h.known;
-    lo_before = omega (arith, h.lo_before, mapped_length (first k) ts);
-    hi_before = omega (arith, h.hi_before, mapped_length (first k) ts);
+    lo_before = omega (arith, h.lo_before, length-map ts (first k));
+    hi_before = omega (arith, h.hi_before, length-map ts (first k));
     after = after_of k e.letter (look ts e.lo) (subst (λ z. e.letter < z) (at_map (first k) leaf ts e.lo ∙ ap (first k) (at-look ts e.lo)) h.after);
     from = from-of k e.letter (look ts e.hi) (subst (λ z. e.letter ≤ z) (at_map (first k) leaf ts e.hi ∙ ap (first k) (at-look ts e.hi)) h.from);
   }
@@ -81,8 +78,8 @@ module _ {E : Type 0} (k : ℕ) where
   placed : (ts : List (Tree E)) (e : Entry E) → Sits k ts e → Placed k (map (first k) ts) e
   placed ts e h = record {
     known = h.known;
-    lo_before = omega (arith, h.lo_before, mapped_length (first k) ts);
-    hi_before = omega (arith, h.hi_before, mapped_length (first k) ts);
+    lo_before = omega (arith, h.lo_before, length-map ts (first k));
+    hi_before = omega (arith, h.hi_before, length-map ts (first k));
     after = subst (λ z. e.letter < z) (sym (at_map (first k) leaf ts e.lo ∙ ap (first k) (at-look ts e.lo))) (of_after k e.letter (look ts e.lo) h.known h.after);
     from = subst (λ z. e.letter ≤ z) (sym (at_map (first k) leaf ts e.hi ∙ ap (first k) (at-look ts e.hi))) (of-from k e.letter (look ts e.hi) h.known h.from);
   }
