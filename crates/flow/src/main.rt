@@ -3,16 +3,16 @@
 
 use formula::limits::{MAX_RECORDS, RECORD_SIZE};
 use formula::text::read;
-use listing::{Refusal, record_at};
+use listing::records::Records;
 use std::io;
 use std::io::Read;
 
-// One line for each of the first `count` records.
-fn print_flow(rt: &impl Print, flow: &[u8], count: usize) -> io::Result<()> {
-    for place in 0..u16::try_from(count).unwrap_or(u16::MAX) {
-        match record_at(flow, place) {
+// One line for each record.
+fn print_flow(rt: &impl Print, flow: &[u8]) -> io::Result<()> {
+    for (place, record) in Records::of(flow).take(MAX_RECORDS).enumerate() {
+        match record {
             Ok(record) => println!(rt; "{place} {record}")?,
-            Err(fault) => return rt.println(Refusal(fault)),
+            Err(fault) => return rt.println(fault),
         }
     }
     Ok(())
@@ -21,12 +21,10 @@ fn print_flow(rt: &impl Print, flow: &[u8], count: usize) -> io::Result<()> {
 fn main(rt: HostRuntime) -> io::Result<()> {
     let mut text = Vec::new(rt.alloc());
     rt.stdin().read_to_end(&mut text)?;
-    if text.last() == Some(&b'\n') {
-        text.pop();
-    }
+    let text = text.strip_suffix(b"\n").unwrap_or(&text);
     let mut buffer = [0; MAX_RECORDS * RECORD_SIZE];
-    match read(&text, &mut buffer) {
-        Ok(count) => print_flow(&rt, &buffer, count),
-        Err(fault) => rt.println(Refusal(fault)),
+    match read(text, &mut buffer) {
+        Ok(count) => print_flow(&rt, &buffer[..RECORD_SIZE * count]),
+        Err(fault) => rt.println(fault),
     }
 }

@@ -1,5 +1,5 @@
 -- The bytes of a flow, record by record.
-use Rattle.std.proofs.Common.{◌≡◌, ℕ, ◌+◌, ◌-◌, ◌*◌, ◌<◌, List, [], ◌∷◌, ◌++◌, length, get_or, take, drop, sym, refl, ap, ◌∙◌, append_assoc, append-nil, arith, length-append, length-take-le, take_all}
+use Rattle.std.proofs.Common.{◌≡◌, ℕ, ◌+◌, ◌-◌, ◌*◌, ◌<◌, List, [], ◌∷◌, ◌++◌, length, get_or, take, drop, sym, refl, ap, ◌∙◌, append_assoc, append-nil, arith, length-append, length-take-le}
 use borrow.Rule.Slice.PartMut.{put_mid}
 use Rattle.std.proofs.lemmas.List.{take_more, take_at, drop_at, drop-drop}
 use Rattle.formula.specs.Limits.{record_size}
@@ -29,6 +29,3 @@ one_more rs was now ys i d h before is =
     ∙ ap (λ y. front ++ (y ++ drop (record_size * (i + 1)) was)) is
     ∙ sym (append_assoc front (encoded (get_or rs i d)) (drop (record_size * (i + 1)) was))
     ∙ ap (λ l. l ++ drop (record_size * (i + 1)) was) (sym (flow_append (take i rs) (get_or rs i d)) ∙ ap flow_bytes (sym (take_more rs i d h)))
-
-pub all_written : (rs : List Record) (was now : List ℕ) (i : ℕ) → i ≡ length rs → now ≡ flow_bytes (take i rs) ++ drop (record_size * i) was → now ≡ flow_bytes rs ++ drop (record_size * length rs) was
-all_written rs was now i e h = h ∙ (λ j. flow_bytes (take_all i rs (omega arith) j) ++ drop (record_size * e j) was)

@@ -1,12 +1,11 @@
 pub mod Complete
+pub mod Counted
 pub mod Flows
 pub mod Followed
-pub mod Inverse
 pub mod Meanings
 pub mod Pinned
 pub mod Places
 pub mod Reading
-pub mod Shallow
 pub mod Sound
 pub mod Taped
 pub mod Uncapped

@@ -1,4 +1,4 @@
-use Rattle.std.proofs.Common.{◌≡◌, ℕ, List, [], ◌∷◌, ◌++◌, Some, None, Option, sym, refl, ap, ◌∙◌, arith}
+use Rattle.std.proofs.Common.{◌≡◌, ℕ, List, [], ◌∷◌, ◌++◌, Some, None, Option, sym, refl, ap, ◌∙◌}
 use Rattle.formula.specs.Formulas.{Formula}
 use Rattle.formula.specs.Grammar.{Spells}
 use Rattle.formula.specs.Machine.{Config, walk, finish, start, step}
@@ -27,4 +27,4 @@ pub stops : (w : List ℕ) → walk (Some start) w ≡ None → Starts w → ⊥
 stops w e (t, f, x) =
     let a = complete f (w ++ t) x in
     let b = ap finish (walk-++ (Some start) w t ∙ ap (λ o. walk o t) e ∙ walk_none t) in
-    let z : ◌≡◌ {A = ℕ} 0 1 = cc in omega arith
+    cc

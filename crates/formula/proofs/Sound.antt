@@ -189,16 +189,20 @@ is b (Letter i) e = (grind (arith, nat_tests), grind (arith, nat_tests))
 is b (Digit d) e = (grind (arith, nat_tests), grind (arith, nat_tests))
 is b Other e = tt
 
+-- the byte that a class names
+named : {s t : List ℕ} {b c : ℕ} {st : State} {l : Level} {ls : List Level} → b ≡ c → Sofar s st l ls (b ∷ t) → Sofar s st l ls (c ∷ t)
+named {s} {t} {st = st} {l = l} {ls = ls} e x = subst (λ y. Sofar s st l ls (y ∷ t)) e x
+
 sound_move : (s t : List ℕ) (b : ℕ) (k : Class) → Is k b → (st : State) (l : Level) (ls : List Level) → Sofar s st l ls (b ∷ t) → All (λ c. Good s c t) (move k st l ls)
-sound_move s t b Space e st l ls x = on_space t (subst (λ y. Sofar s st l ls (y ∷ t)) e x)
-sound_move s t b Plus e st l ls x = on_plus s t l ls (operand_of st) (settled (subst (λ y. Sofar s st l ls (y ∷ t)) e x))
-sound_move s t b Minus e st l ls x = on_minus s t st l ls (subst (λ y. Sofar s st l ls (y ∷ t)) e x)
-sound_move s t b Star e st l ls x = on_star s t l ls (operand_of st) (settled (subst (λ y. Sofar s st l ls (y ∷ t)) e x))
-sound_move s t b Caret e st l ls x = on_caret s t st l ls (subst (λ y. Sofar s st l ls (y ∷ t)) e x)
-sound_move s t b Open e st l ls x = on_open s t st l ls (subst (λ y. Sofar s st l ls (y ∷ t)) e x)
-sound_move s t b Close e st l ls x = on_close s t l ls (operand_of st) (settled (subst (λ y. Sofar s st l ls (y ∷ t)) e x))
-sound_move s t b (Letter i) e st l ls x = on_name s t i e.1 st l ls (subst (λ y. Sofar s st l ls (y ∷ t)) e.0 x)
-sound_move s t b (Digit d) e st l ls x = on_digit s t d e.1 st l ls (subst (λ y. Sofar s st l ls (y ∷ t)) e.0 x)
+sound_move s t b Space e st l ls x = on_space t (named e x)
+sound_move s t b Plus e st l ls x = on_plus s t l ls (operand_of st) (settled (named e x))
+sound_move s t b Minus e st l ls x = on_minus s t st l ls (named e x)
+sound_move s t b Star e st l ls x = on_star s t l ls (operand_of st) (settled (named e x))
+sound_move s t b Caret e st l ls x = on_caret s t st l ls (named e x)
+sound_move s t b Open e st l ls x = on_open s t st l ls (named e x)
+sound_move s t b Close e st l ls x = on_close s t l ls (operand_of st) (settled (named e x))
+sound_move s t b (Letter i) e st l ls x = on_name s t i e.1 st l ls (named e.0 x)
+sound_move s t b (Digit d) e st l ls x = on_digit s t d e.1 st l ls (named e.0 x)
 sound_move s t b Other e st l ls x = tt
 
 sound_walk : (s : List ℕ) (o : Option Config) (t : List ℕ) → All (λ c. Good s c t) o → All (λ c. Good s c []) (walk o t)

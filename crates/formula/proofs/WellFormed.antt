@@ -1,5 +1,5 @@
 -- Each record of a formula that is spelled may stand at its place.
-use Rattle.std.proofs.Common.{◌≡◌, ℕ, zero, suc, ◌-◌, ◌<◌, ◌≤◌, List, [], ◌∷◌, ◌++◌, length, get_or, sym, refl, subst, inl, inr, arith}
+use Rattle.std.proofs.Common.{◌≡◌, ℕ, zero, suc, ◌+◌, ◌-◌, ◌<◌, ◌≤◌, List, [], ◌∷◌, ◌++◌, length, get_or, sym, refl, subst, inl, inr, arith}
 use Rattle.std.proofs.lemmas.List.{length_push, get_or_append_left, get_or_push}
 use Rattle.std.proofs.lemmas.Bool.{cases_lt}
 use Rattle.formula.specs.declared.record.Record.{Record}
@@ -9,7 +9,7 @@ use Rattle.formula.specs.Formulas.{Formula}
 use Rattle.formula.specs.Formulas.Formula.{constant, letter, sum, difference, product, negation, power}
 use Rattle.formula.specs.Grammar.{Part, Reads}
 use Rattle.formula.specs.Grammar.Reads.{a_letter, a_number, in_parentheses, an_atom, a_power, a_negation, a_factor, a_product, a_term, a_sum, a_difference, space_before, space_after}
-use Rattle.formula.specs.Records.{products, written}
+use Rattle.formula.specs.Records.{joined, products, written}
 use Rattle.formula.specs.Theorems.{WellFormed}
 
 -- each letter of the formula is one of the sixteen
@@ -71,12 +71,15 @@ pub products_longer : (b : ℕ) (e : List Record) (k : ℕ) → length e ≤ len
 products_longer b e zero = omega arith
 products_longer b e (suc k) = omega (arith, products_longer b (e ++ Product (length e - 1) b ∷ []) k, length_push e (Product (length e - 1) b))
 
+length_joined : (make : ℕ → ℕ → Record) (a e : List Record) → length (joined make a e) ≡ length e + 1
+length_joined make a e = length_push e (make (length a - 1) (length e - 1))
+
 pub longer : (f : Formula) (e : List Record) → length e ≤ length (written e f)
 longer (constant n) e = omega (arith, length_push e (Constant n))
 longer (letter i) e = omega (arith, length_push e (Letter i))
-longer (sum f g) e = omega (arith, longer f e, longer g (written e f), length_push (written (written e f) g) (Sum (length (written e f) - 1) (length (written (written e f) g) - 1)))
-longer (difference f g) e = omega (arith, longer f e, longer g (written e f), length_push (written (written e f) g) (Difference (length (written e f) - 1) (length (written (written e f) g) - 1)))
-longer (product f g) e = omega (arith, longer f e, longer g (written e f), length_push (written (written e f) g) (Product (length (written e f) - 1) (length (written (written e f) g) - 1)))
+longer (sum f g) e = omega (arith, longer f e, longer g (written e f), length_joined Sum (written e f) (written (written e f) g))
+longer (difference f g) e = omega (arith, longer f e, longer g (written e f), length_joined Difference (written e f) (written (written e f) g))
+longer (product f g) e = omega (arith, longer f e, longer g (written e f), length_joined Product (written e f) (written (written e f) g))
 longer (negation f) e = omega (arith, longer f e, length_push (written e f) (Negation (length (written e f) - 1)))
 longer (power f k) e = omega (arith, longer f e, products_longer (length (written e f) - 1) (written e f) (k - 1))
 
@@ -84,9 +87,9 @@ longer (power f k) e = omega (arith, longer f e, products_longer (length (writte
 pub some_written : (f : Formula) (e : List Record) → 0 < length (written e f)
 some_written (constant n) e = omega (arith, length_push e (Constant n))
 some_written (letter i) e = omega (arith, length_push e (Letter i))
-some_written (sum f g) e = omega (arith, length_push (written (written e f) g) (Sum (length (written e f) - 1) (length (written (written e f) g) - 1)))
-some_written (difference f g) e = omega (arith, length_push (written (written e f) g) (Difference (length (written e f) - 1) (length (written (written e f) g) - 1)))
-some_written (product f g) e = omega (arith, length_push (written (written e f) g) (Product (length (written e f) - 1) (length (written (written e f) g) - 1)))
+some_written (sum f g) e = omega (arith, length_joined Sum (written e f) (written (written e f) g))
+some_written (difference f g) e = omega (arith, length_joined Difference (written e f) (written (written e f) g))
+some_written (product f g) e = omega (arith, length_joined Product (written e f) (written (written e f) g))
 some_written (negation f) e = omega (arith, length_push (written e f) (Negation (length (written e f) - 1)))
 some_written (power f k) e = omega (arith, some_written f e, products_longer (length (written e f) - 1) (written e f) (k - 1))
 

@@ -2,7 +2,7 @@
 use Rattle.std.specs.Prelude.{◌≡◌, ℕ, ◌+◌, ◌*◌, ◌/◌, ◌%◌, ◌<◌, Bool, cond, ◌&&◌, List, [], ◌∷◌, ◌++◌, Ok, Err, Result, ◌==◌, nat_lt, slice_index}
 use Rattle.domain.specs.declared.fault.Fault.{Fault}
 use Rattle.domain.specs.declared.fault.Fault.TheVariants.{Malformed}
-use Rattle.formula.specs.declared.record.Fields.{Fields}
+use Rattle.formula.specs.declared.fields.Fields.{Fields}
 use Rattle.formula.specs.declared.record.Record.{Record}
 use Rattle.formula.specs.declared.record.Record.TheVariants.{Constant, Letter, Sum, Difference, Product, Negation}
 
@@ -56,6 +56,10 @@ unused n = n == 0
 -- the record, if the test holds, else refusal 10
 abbrev provided : Bool → Record → Result Record Fault
 provided b r = cond b (Ok r) (Err Malformed)
+
+-- the operands of an operator with two, if both are records before the place
+abbrev pub two_operands : ℕ → Fields → Result (ℕ × ℕ) Fault
+two_operands place f = cond (unused f.letter && (nat_lt f.left place && nat_lt f.right place)) (Ok (f.left, f.right)) (Err Malformed)
 
 -- the record of an operator with two operands, if both are records before the place
 abbrev joining : ℕ → Fields → (ℕ → ℕ → Record) → Result Record Fault

@@ -1,35 +1,31 @@
 -- How the reader follows the automaton.
-use Rattle.std.specs.Prelude.{◌≡◌, ℕ, ◌-◌, ◌≤◌, Bool, true, false, List, [], ◌∷◌, ◌++◌, length, Some, None, Option, slice_index_or}
-use Rattle.formula.specs.Limits.{max_open}
+use Rattle.std.specs.Prelude.{◌≡◌, ℕ, ◌+◌, ◌*◌, ◌^◌, min, cond, nat_lt, List, [], ◌∷◌, ◌++◌, Some, None, Option}
 use Rattle.formula.specs.declared.record.Record.{Record}
 use Rattle.formula.specs.declared.record.Record.TheVariants.{Constant, Letter, Negation}
 use Rattle.formula.specs.declared.state.State.{State as CodeState}
 use Rattle.formula.specs.declared.state.State.TheVariants.{Operand, Number, Atom, Caret, Exponent, Power}
-use Rattle.formula.specs.declared.state.Pending.{Pending}
-use Rattle.formula.specs.declared.state.Pending.TheVariants.{First, Plus, Minus}
+use Rattle.formula.specs.declared.state.Sign.{Sign}
+use Rattle.formula.specs.declared.state.Sign.TheVariants.{Plus, Minus}
 use Rattle.formula.specs.declared.state.Level.{Level as CodeLevel}
 use Rattle.formula.specs.declared.class.Class.{Class}
 use Rattle.formula.specs.declared.reader.Reader.{Reader}
-use Rattle.formula.specs.Tapes.{Wrote, cap, settled, multiplied, added}
+use Rattle.formula.specs.declared.tape.Tape.{Tape}
+use Rattle.formula.specs.Tapes.{Wrote, last_number, settled, multiplied, added}
 use Rattle.formula.specs.Formulas.{Formula}
 use Rattle.formula.specs.Formulas.Formula.{constant, letter, sum, difference, product, negation, power}
-use Rattle.formula.specs.Machine.{Terms, Factors, Level, State, Config, move, operand_of, at_end}
+use Rattle.formula.specs.Machine.{Terms, Factors, Level, State, Config, move, digit_move, operand_of, at_end}
 use Rattle.formula.specs.Machine.Terms.{no_terms, plus, minus}
 use Rattle.formula.specs.Machine.Factors.{no_factors, times}
 use Rattle.formula.specs.Machine.Level.{level}
 use Rattle.formula.specs.Machine.State.{awaiting, in_number, past_atom, past_caret, in_exponent, past_power}
 use Rattle.formula.specs.Machine.Config.{config}
 
--- the number of the last record, as the tape has it
-abbrev pub last_number : List Record → ℕ
-last_number e = cap (length e - 1)
-
 -- the records of a formula after e, as the tape has them
 abbrev pub put : List Record → Formula → List Record
 put e (constant n) = e ++ Constant n ∷ []
 put e (letter i) = e ++ Letter i ∷ []
-put e (sum f g) = added (put (put e f) g) (Plus (last_number (put e f)))
-put e (difference f g) = added (put (put e f) g) (Minus (last_number (put e f)))
+put e (sum f g) = added (put (put e f) g) (Some (Plus, last_number (put e f)))
+put e (difference f g) = added (put (put e f) g) (Some (Minus, last_number (put e f)))
 put e (product f g) = multiplied (put (put e f) g) (Some (last_number (put e f)))
 put e (negation f) = put e f ++ Negation (last_number (put e f)) ∷ []
 put e (power f k) = settled (put e f) (Exponent k)
@@ -73,81 +69,116 @@ past_levels [] = []
 past_levels (l ∷ ls) = past_level (past_levels ls) l
 
 -- the reader's form of the terms that wait, behind the records e
-abbrev pub pending : List Record → Terms → Pending
-pending e no_terms = First
-pending e (plus f) = Plus (last_number (put e f))
-pending e (minus f) = Minus (last_number (put e f))
+abbrev pub pending : List Record → Terms → Option (Sign × ℕ)
+pending e no_terms = None
+pending e (plus f) = Some (Plus, last_number (put e f))
+pending e (minus f) = Some (Minus, last_number (put e f))
 
 -- the reader's form of the factors that wait, behind the records e
 abbrev pub waiting : List Record → Factors → Option ℕ
 waiting e no_factors = None
 waiting e (times f) = Some (last_number (put e f))
 
+-- signs as the reader counts them: exact up to a number that is more than a flow has records
+abbrev pub counted : ℕ → ℕ
+counted m = min m 65535
+
 -- the reader's form of a level, behind the records e
 abbrev pub frame : List Record → Level → CodeLevel
-frame e (level a p m) = record { sum = pending e a; product = waiting (past_terms e a) p; negations = m }
+frame e (level a p m) = record { sum = pending e a; product = waiting (past_terms e a) p; negations = counted m }
 
--- the reader's array holds the outer levels, the outermost first
-abbrev pub Stacked : List Level → List CodeLevel → Type 0
-Stacked [] xs = Unit {0}
-Stacked (l ∷ ls) xs = ((d : CodeLevel) → slice_index_or xs (length ls) d ≡ frame (past_levels ls) l) × Stacked ls xs
+-- the reader's form of the outer levels, the outermost first
+abbrev pub frames : List Level → List CodeLevel
+frames [] = []
+frames (l ∷ ls) = frames ls ++ frame (past_levels ls) l ∷ []
+
+-- the reader x holds all that waits, and its tape the records e
+pub record Holds (l : Level) (ls : List Level) (e : List Record) (x : Reader) : Type 0 where
+  pub level_is : x.level ≡ frame (past_levels ls) l
+  pub outer_is : x.outer.items ≡ frames ls
+  pub wrote : Wrote x.tape e
 
 -- the reader x stands where the automaton does, and its tape holds the records so far
 pub record Follows (st : State) (l : Level) (ls : List Level) (x : Reader) : Type 0 where
   pub state_is : x.state ≡ code_state st
-  pub level_is : x.level ≡ frame (past_levels ls) l
-  pub depth_is : x.depth ≡ length ls
-  pub deep : length ls ≤ max_open
-  pub outer_is : Stacked ls x.outer
-  pub room : length x.outer ≡ max_open
-  pub wrote : Wrote x.tape (past_state (past_levels (l ∷ ls)) st)
+  pub holds : Holds l ls (past_state (past_levels (l ∷ ls)) st) x
 
--- what a step answers, and where the reader then stands
-abbrev pub Stepped : Option Config → Bool → Reader → Type 0
-Stepped None r x = r ≡ false
-Stepped (Some (config st l ls)) r x = (r ≡ true) × Follows st l ls x
+-- the state s, and what the reader x holds, are those of a configuration
+abbrev pub Reaches : Reader → Config → CodeState → Type 0
+Reaches x (config st l ls) s = (s ≡ code_state st) × Holds l ls (past_state (past_levels (l ∷ ls)) st) x
 
--- where there is an operand, it is written, and the state is that which `to` gives
-abbrev pub Settles : Option Formula → (Formula → State) → Level → List Level → Bool → Reader → Type 0
-Settles None to l ls r x = Unit {0}
-Settles (Some f) to l ls r x = (r ≡ true) × Follows (to f) l ls x
+-- the reader x stands at a configuration
+abbrev pub StandsAt : Reader → Config → Unit {0} → Type 0
+StandsAt x (config st l ls) u = Follows st l ls x
 
--- what the end of the text answers, and what the tape then holds
-abbrev pub Finished : Option Formula → Bool → Reader → Type 0
-Finished None r x = r ≡ false
-Finished (Some f) r x = (r ≡ true) × Wrote x.tape (put [] f)
+-- the tape t holds the records of a formula
+abbrev pub HoldsFlow : Formula → Tape → Type 0
+HoldsFlow f t = Wrote t (put [] f)
 
--- the state that holds an operand which is written
-abbrev pub reached : CodeState → Formula → State
-reached Operand f = past_power f
-reached (Number n) f = past_power f
-reached Atom f = past_atom f
-reached Caret f = past_caret f
-reached (Exponent k) f = past_power f
-reached Power f = past_power f
+-- there are both, of which P holds, or neither
+abbrev pub Matched : {A B : Type 0} → (A → B → Type 0) → Option A → Option B → Type 0
+Matched P None None = Unit {0}
+Matched P None (Some b) = ⊥
+Matched P (Some a) None = ⊥
+Matched P (Some a) (Some b) = P a b
+
+-- the next state, if there is one, and what the reader x then holds
+abbrev pub Stepped : Option Config → Option CodeState → Reader → Type 0
+Stepped o r x = Matched (Reaches x) o r
+
+-- whether there is a next configuration; then the reader x stands there
+abbrev pub Arrived : Option Config → Option (Unit {0}) → Reader → Type 0
+Arrived o r x = Matched (StandsAt x) o r
+
+-- where there is an operand, it is written
+abbrev pub Settled : Option Formula → Level → List Level → Reader → Type 0
+Settled None l ls x = Unit {0}
+Settled (Some f) l ls x = Holds l ls (put (past_levels (l ∷ ls)) f) x
+
+-- the tape of the formula, if there is one
+abbrev pub Finished : Option Formula → Option Tape → Type 0
+Finished o r = Matched HoldsFlow o r
+
+-- the reader's form of a configuration's state
+abbrev pub next_state : Option Config → Option CodeState
+next_state None = None
+next_state (Some (config st l ls)) = Some (code_state st)
+
+-- how a term joins the terms before it
+abbrev pub joined_by : Sign → Formula → Terms
+joined_by Plus f = plus f
+joined_by Minus f = minus f
+
+-- the number that n and one more digit spell, if it is below 2 ^ 32
+abbrev pub with_digit : ℕ → ℕ → Option ℕ
+with_digit n d = cond (nat_lt (10 * n + d) (2 ^ 32)) (Some (10 * n + d)) None
 
 -- What the reader's methods promise: x is the reader before a call, r its answer, y the reader behind it.
 
 -- wherever the automaton stands, the reader moves as it does at a byte of a class
-abbrev pub Moves : Class → Reader → Bool → Reader → Type 0
+abbrev pub Moves : Class → Reader → Option CodeState → Reader → Type 0
 Moves k x r y = (s : State) (l : Level) (ls : List Level) → Follows s l ls x → Stepped (move k s l ls) r y
 
+-- the same, where the reader takes the next state
+abbrev pub Steps : Class → Reader → Option (Unit {0}) → Reader → Type 0
+Steps k x r y = (s : State) (l : Level) (ls : List Level) → Follows s l ls x → Arrived (move k s l ls) r y
+
 -- in state s, the reader moves as `m` says
-abbrev pub MovesFrom : State → (State → Level → List Level → Option Config) → Reader → Bool → Reader → Type 0
+abbrev pub MovesFrom : State → (State → Level → List Level → Option Config) → Reader → Option CodeState → Reader → Type 0
 MovesFrom s m x r y = (l : Level) (ls : List Level) → Follows s l ls x → Stepped (m s l ls) r y
 
 -- past an operand, the reader moves as `m` says
-abbrev pub MovesPast : (Option Formula → Level → List Level → Option Config) → Reader → Bool → Reader → Type 0
+abbrev pub MovesPast : (Option Formula → Level → List Level → Option Config) → Reader → Option CodeState → Reader → Type 0
 MovesPast m x r y = (s : State) (f : Formula) (l : Level) (ls : List Level) → operand_of s ≡ Some f → Follows s l ls x → Stepped (m (Some f) l ls) r y
 
--- only the state changes, to `state`, between states whose records are the same
-abbrev pub Turns : CodeState → Reader → Bool → Reader → Type 0
-Turns state x r y = (r ≡ true) × ((s t : State) (l : Level) (ls : List Level) → code_state t ≡ state → past_state (past_levels (l ∷ ls)) s ≡ past_state (past_levels (l ∷ ls)) t → Follows s l ls x → Follows t l ls y)
+-- in state s, the answer is the automaton's state past a digit
+abbrev pub MovesAtDigit : ℕ → State → Option CodeState → Type 0
+MovesAtDigit d s r = (l : Level) (ls : List Level) → r ≡ next_state (digit_move d s l ls)
 
--- the operand that was read is written, and `state` is next
-abbrev pub WritesOperand : CodeState → Reader → Bool → Reader → Type 0
-WritesOperand state x r y = (s : State) (l : Level) (ls : List Level) → Follows s l ls x → Settles (operand_of s) (reached state) l ls r y
+-- the operand that was read, if there is one, is written
+abbrev pub Settles : Reader → Reader → Type 0
+Settles x y = (s : State) (l : Level) (ls : List Level) → Follows s l ls x → Settled (operand_of s) l ls y
 
--- the text may end exactly where the automaton ends with a formula, whose records are then written
-abbrev pub Ends : Reader → Bool → Reader → Type 0
-Ends x r y = (s : State) (l : Level) (ls : List Level) → Follows s l ls x → Finished (at_end (operand_of s) l ls) r y
+-- the text may end exactly where the automaton ends with a formula, whose records are then on the tape
+abbrev pub Ends : Reader → Option Tape → Type 0
+Ends x r = (s : State) (l : Level) (ls : List Level) → Follows s l ls x → Finished (at_end (operand_of s) l ls) r

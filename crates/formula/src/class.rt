@@ -16,11 +16,11 @@ pub enum Class {
     Other,
 }
 
-impl Class {
-    pub fn of(byte: u8) -> Class
-        ensures { result ≡ classify byte }
-    {
-        match byte as char {
+impl From<u8> for Class {
+    ghost from_gives = { λ byte r. r ≡ classify byte };
+
+    fn from(byte: u8) -> Class {
+        match char::from(byte) {
             ' ' => Class::Space,
             '+' => Class::Plus,
             '-' => Class::Minus,

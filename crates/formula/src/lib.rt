@@ -2,6 +2,8 @@
 #![tactic(auto)]
 
 mod class;
+mod digits;
+mod fields;
 mod flow;
 pub mod limits;
 mod reader;

@@ -11,33 +11,26 @@ pub enum State {
     // Past `^`: an exponent is to come.
     Caret,
     // Inside an exponent, which is this one so far.
-    Exponent(u8),
+    Exponent(u32),
     // Past a factor with an exponent.
     Power,
 }
 
-// The formula before the term that is being read, by its record's number, and how the term joins it.
+// How a term joins the formula before it.
 #[derive(Clone, Copy)]
-pub enum Pending {
-    First,
-    Plus(u16),
-    Minus(u16),
+pub enum Sign {
+    Plus,
+    Minus,
 }
 
-// What waits for the operand that is being read, inside one pair of parentheses or outside all.
-#[derive(Clone, Copy)]
+// What waits for the operand that is being read, inside one pair of parentheses or outside all. A record's number stands
+// for the formula whose last record it is.
+#[derive(Clone, Copy, Default)]
 pub struct Level {
-    pub sum: Pending,
+    // The formula before the term that is being read, and how the term joins it.
+    pub sum: Option<(Sign, u16)>,
     // The term before the factor that is being read.
     pub product: Option<u16>,
-    // The signs before the operand.
+    // The signs before the operand. More than u16::MAX of them count as so many, which is already more than a flow has records.
     pub negations: u16,
-}
-
-impl Level {
-    pub const EMPTY: Level = Level {
-        sum: Pending::First,
-        product: None,
-        negations: 0,
-    };
 }

@@ -1,44 +1,54 @@
 // The records of the text so far.
-ghost use Rattle.std.specs.Prelude.{◌≡◌, ◌-◌, [], ◌∷◌, ◌++◌, length};
-ghost use Rattle.formula.specs.Tapes.{Adds, negations, powers, settled, multiplied, termed, wholed};
+ghost use Rattle.std.specs.Prelude.{◌≡◌, ◌-◌, [], ◌∷◌, ◌++◌};
+ghost use Rattle.formula.specs.Tapes.{Adds, NamesLast, Wrote, negated, powered, settled, multiplied, termed, wholed};
 
 use crate::limits::MAX_RECORDS;
 use crate::record::Record;
-use crate::state::{Level, Pending, State};
+use crate::state::{Level, Sign, State};
+use arrayvec::ArrayVec;
 
-// One more than a flow has.
-const TOO_MANY: u16 = MAX_RECORDS as u16 + 1;
+// One more record than a flow has: what fills a tape is too long for a flow.
+const TAPE_ROOM: usize = MAX_RECORDS + 1;
 
-// The first records, and how many there are, where `TOO_MANY` stands for that many or more.
+// The records, or the first of them where there are more than the tape has room for.
 #[derive(Drop)]
 pub struct Tape {
-    pub records: [Record; MAX_RECORDS],
-    pub count: u16,
+    records: ArrayVec<Record, TAPE_ROOM>,
 }
 
 impl Tape {
+    pub fn new() -> Tape
+        ensures { Wrote result [] }
+    {
+        Tape {
+            records: ArrayVec::new(),
+        }
+    }
+
+    pub fn records(&self) -> &[Record]
+        ensures { result.now ≡ self.now.records.items }
+    {
+        self.records.as_slice()
+    }
+
     pub fn push(&mut self, item: Record)
         ensures { Adds self.old self.new (λ e. e ++ item ∷ []) }
     {
-        let at = self.count as usize;
-        if at >= MAX_RECORDS {
-            self.count = TOO_MANY;
-            return;
+        if !self.records.is_full() {
+            self.records.push(item);
         }
-        self.records[at] = item;
-        self.count += 1;
     }
 
-    // The number of the last record.
+    // The number of the last record. By `as`: it fits, and `try_from` would have an `Err` that never comes.
     pub fn last(&self) -> u16
-        ensures { result ≡ self.now.count - 1 }
+        ensures { NamesLast self.now result }
     {
-        self.count.saturating_sub(1)
+        self.records.len().saturating_sub(1) as u16
     }
 
     // The last record, negated this many times.
     pub fn negate(&mut self, times: u16)
-        ensures { Adds self.old self.new (λ e. e ++ negations (length e) times) }
+        ensures { Adds self.old self.new (λ e. negated e times) }
     {
         for _ in 0..times {
             let operand = self.last();
@@ -47,11 +57,11 @@ impl Tape {
     }
 
     // The last record to the power k.
-    pub fn raise(&mut self, k: u8)
-        ensures { Adds self.old self.new (λ e. e ++ powers (length e - 1) (length e) (k - 1)) }
+    pub fn raise(&mut self, k: u32)
+        ensures { Adds self.old self.new (λ e. powered e (k - 1)) }
     {
         let base = self.last();
-        for _ in 0..k.saturating_sub(1) {
+        for _ in 1..k {
             let product = self.last();
             self.push(Record::Product(product, base));
         }
@@ -77,7 +87,8 @@ impl Tape {
         }
     }
 
-    // The end of a term.
+    // The end of a term. The state and the level are fields of the reader: a struct of both would only lengthen each of the
+    // places that read one.
     pub fn close_term(&mut self, state: State, level: Level)
         ensures { Adds self.old self.new (λ e. termed e state level) }
     {
@@ -93,9 +104,9 @@ impl Tape {
         self.close_term(state, level);
         let right = self.last();
         match level.sum {
-            Pending::First => {}
-            Pending::Plus(left) => self.push(Record::Sum(left, right)),
-            Pending::Minus(left) => self.push(Record::Difference(left, right)),
+            None => {}
+            Some((Sign::Plus, left)) => self.push(Record::Sum(left, right)),
+            Some((Sign::Minus, left)) => self.push(Record::Difference(left, right)),
         }
     }
 }

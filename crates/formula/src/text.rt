@@ -17,19 +17,19 @@ pub fn read(text: &[u8], buffer: &mut [u8]) -> Result<usize, Fault>
     }
     let mut reader = Reader::new();
     for (place, byte) in text.iter().enumerate() {
-        if !reader.step(Class::of(*byte)) {
-            return Err(Fault::NoFormula { place });
-        }
+        reader
+            .step(Class::from(*byte))
+            .ok_or(Fault::NoFormula { place })?;
     }
-    if !reader.finish() {
-        return Err(Fault::NoFormula { place: text.len() });
-    }
-    let count = reader.tape.count as usize;
-    let size = RECORD_SIZE * count;
+    let tape = reader
+        .finish()
+        .ok_or(Fault::NoFormula { place: text.len() })?;
+    let records = tape.records();
+    let count = records.len();
     let room = buffer.len();
-    if count > MAX_RECORDS || size > room {
+    if count > MAX_RECORDS || RECORD_SIZE * count > room {
         return Err(Fault::NoRoom { room });
     }
-    write_records(&reader.tape.records[0..count], buffer);
+    write_records(records, buffer);
     Ok(count)
 }

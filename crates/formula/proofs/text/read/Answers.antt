@@ -1,40 +1,56 @@
-use Rattle.std.proofs.Common.{◌-◌, ◌*◌, ◌<◌, ◌⊎◌, length, sym, refl, inl, inr, arith}
+use Rattle.std.proofs.Common.{◌≡◌, ◌*◌, ◌<◌, ◌⊎◌, ◌++◌, length, drop, Some, None, Err, sym, refl, ap, ◌∙◌, subst, inl, inr, arith}
+use Rattle.std.proofs.lemmas.Grind.{common_steps}
+use Rattle.domain.specs.declared.fault.Fault.TheVariants.{NoFormula}
+use Rattle.formula.specs.Answer.{Answer}
+use Rattle.formula.specs.Flow.{flow_bytes}
 use Rattle.formula.specs.Limits.{max_records, record_size}
 use Rattle.formula.specs.Records.{records}
-use Rattle.formula.proofs.Reading.{goes_on, breaks, stepped, ended, unfinished, finished, long, copied, laid}
+use Rattle.formula.proofs.Reading.{goes_on, breaks, stepped, ended, unfinished, finished, long, copied}
 use Rattle.formula.proofs.text.read.Goals as goal
+use Rattle.formula.proofs.text.read.Goals.{then-count-gt-MAX_RECORDS-via-then-count-gt-MAX_RECORDS, then-count-gt-MAX_RECORDS-via-else-count-gt-MAX_RECORDS+then-count-room}
 
-pub returns-then-not-step : goal.returns-then-not-step
-returns-then-not-step c =
+pub returns-in_err-ok_or : goal.returns-in_err-ok_or
+returns-in_err-ok_or c =
     let text = c.args.text.now in
     let i = c.loop-place.place in
     let r = c.loop-place.invariant in
-    (refl, (omega arith, breaks text i c.loop-place.reader c.step.new.self r (omega arith) (stepped text i c.loop-place.reader c.step.new.self r _ _ _ c.of.ensures c.if-not-step.true c.step.ensures)))
+    let none : c.step.result ≡ None = grind (arith, common_steps) in
+    let is : c.from_residual.result ≡ Err (NoFormula i) = grind (arith, common_steps) in
+    subst (Answer text c.args.buffer.now c.args.buffer.now) (sym is)
+    (refl, (omega arith, breaks text i _ _ r (omega arith) (stepped text i _ _ r _ _ None c.from.ensures none c.step.ensures)))
 
 pub loop-place-preserved : goal.loop-place-preserved
 loop-place-preserved c =
     let text = c.args.text.now in
     let i = c.loop-place.place in
     let r = c.loop-place.invariant in
-    goes_on text i c.loop-place.reader c.step.new.self r (omega arith) (stepped text i c.loop-place.reader c.step.new.self r _ _ _ c.of.ensures c.if-not-step.false c.step.ensures)
+    let some : c.step.result ≡ Some tt = grind (arith, common_steps) in
+    goes_on text i _ _ r (omega arith) (stepped text i _ _ r _ _ (Some tt) c.from.ensures some c.step.ensures)
 
-pub returns-then-not-finish : goal.returns-then-not-finish
-returns-then-not-finish c =
+pub returns-in_err-tape : goal.returns-in_err-tape
+returns-in_err-tape c =
     let text = c.args.text.now in
     let i = c.loop-place.place in
     let r = c.loop-place.invariant in
-    (refl, (omega arith, unfinished text i c.loop-place.reader c.finish.new.self r c.loop-place-test.false (ended text i c.loop-place.reader c.finish.new.self r _ _ c.if-not-finish.true c.finish.ensures)))
+    let none : c.finish.result ≡ None = grind (arith, common_steps) in
+    let is : c.from_residual-in_err-tape.result ≡ Err (NoFormula (length text)) = grind (arith, common_steps) in
+    subst (Answer text c.args.buffer.now c.args.buffer.now) (sym is)
+    (refl, (omega arith, unfinished text i _ r c.loop-place-test.false (ended text i _ r _ None none c.finish.ensures)))
 
 pub returns-then-count-gt-MAX_RECORDS : goal.returns-then-count-gt-MAX_RECORDS
 returns-then-count-gt-MAX_RECORDS c =
     let text = c.args.text.now in
     let i = c.loop-place.place in
     let r = c.loop-place.invariant in
-    let y = c.finish.new.self in
-    let got = finished text i c.loop-place.reader y r c.loop-place-test.false (ended text i c.loop-place.reader y r _ _ c.if-not-finish.false c.finish.ensures) in
-    let n = long text y got in
+    let tape = c.in_ok-tape.tape in
+    let some : c.finish.result ≡ Some tape = grind (arith, common_steps) in
+    let got = finished text i _ tape r c.loop-place-test.false (ended text i _ r _ (Some tape) some c.finish.ensures) in
+    let n = ap length c.records-records.ensures ∙ long text tape got in
     let way : (max_records < length (records got.formula)) ⊎ (length c.args.buffer.now < record_size * length (records got.formula)) =
-    elim c.then-count-gt-MAX_RECORDS.either [ inl h ↦ inl (omega (arith, h, n)) | inr h ↦ inr (omega (arith, h.0, h.1, n)) ] in
+    elim c.then-count-gt-MAX_RECORDS.branch [
+      | then-count-gt-MAX_RECORDS-via-then-count-gt-MAX_RECORDS w ↦ inl (omega (arith, n, w.if-count-gt-MAX_RECORDS))
+      | then-count-gt-MAX_RECORDS-via-else-count-gt-MAX_RECORDS+then-count-room w ↦ inr (omega (arith, n, w.if-count-gt-MAX_RECORDS, w.if-count-room))
+    ] in
     (refl, (refl, omega arith, (got.formula, record { spelled = got.spelled; over = way })))
 
 pub returns : goal.returns
@@ -42,18 +58,20 @@ returns c =
     let text = c.args.text.now in
     let i = c.loop-place.place in
     let r = c.loop-place.invariant in
-    let y = c.finish.new.self in
-    let got = finished text i c.loop-place.reader y r c.loop-place-test.false (ended text i c.loop-place.reader y r _ _ c.if-not-finish.false c.finish.ensures) in
-    let out = copied text y got y.tape.count refl (omega arith) in (
+    let tape = c.in_ok-tape.tape in
+    let some : c.finish.result ≡ Some tape = grind (arith, common_steps) in
+    let got = finished text i _ tape r c.loop-place-test.false (ended text i _ r _ (Some tape) some c.finish.ensures) in
+    let all : c.records-records.result.now ≡ records got.formula = c.records-records.ensures ∙ copied text tape got (omega (arith, ap length c.records-records.ensures)) in
+    let n = ap length all in (
       omega arith,
       (
         got.formula,
         record {
           spelled = got.spelled;
-          count = sym out.0;
+          count = n;
           fits = omega arith;
           room = omega arith;
-          bytes = laid y.tape.records (records got.formula) y.tape.count (y.tape.count - 0) _ c.args.buffer.now out.1 out.0 (omega arith) c.write_records.ensures;
+          bytes = c.write_records.ensures ∙ (λ j. flow_bytes (all j) ++ drop (record_size * length c.records-records.result.now) c.args.buffer.now);
         },
       ),
     )

@@ -1,6 +1,5 @@
-use Rattle.std.proofs.Common.{◌++◌, length}
-use Rattle.formula.specs.Tapes.{Adds, negations}
+use Rattle.formula.specs.Tapes.{Adds, negated}
 use Rattle.formula.proofs.tape.Tape.negate.Given as goal
 
 abbrev pub invariant-loop : goal.invariant-loop
-invariant-loop l = Adds l.initial.self l.self (λ e. e ++ negations (length e) l.counter)
+invariant-loop l = Adds l.initial.self l.self (λ e. negated e l.counter)

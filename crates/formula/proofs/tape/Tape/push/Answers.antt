@@ -1,9 +1,10 @@
 use Rattle.std.proofs.Common.{arith}
+use Rattle.std.proofs.lemmas.Bool.Decides.{nat_tests}
 use Rattle.formula.proofs.Taped.{wrote_full, wrote_more}
 use Rattle.formula.proofs.tape.Tape.push.Goals as goal
 
-pub returns-then-at-ge-MAX_RECORDS : goal.returns-then-at-ge-MAX_RECORDS
-returns-then-at-ge-MAX_RECORDS c = λ e w. wrote_full _ e _ c.if-at-ge-MAX_RECORDS.true w
+pub returns-then-not-is_full : goal.returns-then-not-is_full
+returns-then-not-is_full c = λ e w. wrote_more _ _ e _ (grind (arith, nat_tests)) c.push.ensures.items w
 
-pub returns : goal.returns
-returns c = λ e w. wrote_more _ e _ (omega arith) w
+pub returns-else-not-is_full : goal.returns-else-not-is_full
+returns-else-not-is_full c = λ e w. wrote_full _ e _ (grind (arith, nat_tests)) w

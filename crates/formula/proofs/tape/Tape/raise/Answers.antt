@@ -1,18 +1,17 @@
-use Rattle.std.proofs.Common.{◌≡◌, ◌-◌, [], ◌∷◌, ◌++◌, length, sym, ap, ◌∙◌, subst, append-nil, arith}
+use Rattle.std.proofs.Common.{◌≡◌, suc, ◌+◌, ◌-◌, [], ◌∷◌, ◌++◌, subst, arith}
 use Rattle.formula.specs.declared.record.Record.TheVariants.{Product}
-use Rattle.formula.specs.Tapes.{Wrote, powers}
-use Rattle.formula.proofs.Taped.{powers-next, last_is}
+use Rattle.formula.specs.Tapes.{Wrote, powered}
 use Rattle.formula.proofs.tape.Tape.raise.Goals as goal
 
-pub loop-init : goal.loop-init
-loop-init c = λ e w. subst (Wrote _) (sym (append-nil e)) w
-
 pub loop-preserved : goal.loop-preserved
-loop-preserved c = λ e w.
-    let before = c.loop.invariant e w in
-    subst (Wrote c.push.new.self)
-    (ap (λ k. (e ++ powers (length e - 1) (length e) c.loop.counter) ++ Product k c.last-base.result ∷ []) c.last-product.ensures ∙ powers-next _ e _ _ (c.last-base.ensures ∙ last_is _ e w) before)
-    (c.push.ensures _ before)
+loop-preserved c = record {
+  on_tape = λ e w.
+      let before = c.loop.invariant.on_tape e w in
+      let next : suc (c.loop.counter - 1) ≡ c.loop.counter + 1 - 1 = omega arith in
+      subst (λ n. Wrote c.push.new.self (powered e n)) next
+      (subst (Wrote c.push.new.self) (λ i. powered e (c.loop.counter - 1) ++ Product (c.last-product.ensures _ before i) (c.last-base.ensures e w i) ∷ []) (c.push.ensures _ before));
+  within = omega arith;
+}
 
 pub returns : goal.returns
-returns c = λ e w. let same : c.loop.counter ≡ c.args.k - 1 = omega arith in subst (λ k. Wrote c.loop.self (e ++ powers (length e - 1) (length e) k)) same (c.loop.invariant e w)
+returns c = λ e w. let all : c.loop.counter - 1 ≡ c.args.k - 1 = omega arith in subst (λ n. Wrote c.loop.self (powered e n)) all (c.loop.invariant.on_tape e w)
