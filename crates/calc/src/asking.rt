@@ -1,14 +1,14 @@
 // What a line asks.
 use domain::number::Number;
 
-#[derive(Clone, Copy)]
+#[derive(Clone, Copy, PartialEq, Eq, Debug)]
 pub enum DomainName {
     Whole,
     Residue,
     Byte,
 }
 
-#[derive(Clone, Copy)]
+#[derive(Clone, Copy, PartialEq, Eq, Debug)]
 pub enum Query {
     Code(Number),
     Limit,
@@ -18,4 +18,11 @@ pub enum Query {
     Product(Number, Number),
     Factor(Number, Number),
     Inverse(Number),
+}
+
+// A query, and the domain that it is put to.
+#[derive(Clone, Copy, PartialEq, Eq, Debug)]
+pub struct Question {
+    pub domain: DomainName,
+    pub query: Query,
 }

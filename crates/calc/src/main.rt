@@ -1,8 +1,9 @@
-// A calculator over the coefficient domains: one query a line, one answer a line.
+// A calculator over the coefficient domains: one question a line, one answer a line.
 #![tactic(auto)]
 
 mod answering;
 mod asking;
+mod no_answer;
 mod reading;
 
 use answering::reply;
@@ -12,8 +13,10 @@ use std::io::{BufRead, BufReader};
 
 fn main(rt: HostRuntime) -> io::Result<()> {
     for line in BufReader::new(rt.alloc(), rt.stdin())?.split(rt.alloc(), b'\n') {
-        let answer = reply(read(&line?));
-        println!(rt; "{answer}")?;
+        match reply(read(&line?)) {
+            Ok(answer) => println!(rt; "{answer}")?,
+            Err(reason) => println!(rt; "{reason}")?,
+        }
     }
     Ok(())
 }
