@@ -1,13 +1,17 @@
 pub mod Comparing
 pub mod CountingLaws
+pub mod Degrees
 pub mod Joining
 pub mod LawfulLaws
 pub mod Lettering
+pub mod Lining
 pub mod Listing
 pub mod Marking
 pub mod Monomials
 pub mod Negating
 pub mod Numbering
+pub mod Putting
 pub mod Refusing
+pub mod Stopping
 pub mod Walking
 pub mod Weighing

@@ -4,6 +4,7 @@ pub mod Counting
 pub mod Equality
 pub mod Filling
 pub mod Letters
+pub mod Lines
 pub mod Listed
 pub mod Making
 pub mod Masses
@@ -11,6 +12,7 @@ pub mod Monomials
 pub mod Nodes
 pub mod Orders
 pub mod Places
+pub mod Printing
 pub mod Stores
 pub mod Tables
 pub mod Terms

@@ -21,3 +21,7 @@ Lower k e = (e.additive.target ≤ k) × (e.multiplicative.target ≤ k)
 
 abbrev pub Falls : List Entry → Type 0
 Falls es = All Lower es
+
+-- the letter of an entry is one of the first n
+abbrev pub Lettered : ℕ → ℕ → Entry → Type 0
+Lettered n k e = e.letter < n

@@ -4,7 +4,7 @@ use Rattle.domain.specs.Model.{Model}
 use Rattle.polynomial.specs.Entries.{Entry as Node, look, trees}
 use Rattle.polynomial.specs.Lists.{Distinct}
 use Rattle.polynomial.specs.Polynomials.{Polynomial}
-use Rattle.polynomial.specs.Trees.{Tree, Reduced, Lawful, tree_mass, value}
+use Rattle.polynomial.specs.Trees.{Tree, Reduced, Lawful, tree_mass, tree_degree, value}
 use Rattle.diagram.specs.Places.{All}
 use Rattle.diagram.specs.declared.entry.Entry.{Entry}
 use Rattle.diagram.specs.declared.entry.Reference.{Reference}
@@ -55,3 +55,11 @@ pub record Kept {E : Type 0} (M : Model E) (k : ℕ) (es : List Entry) : Type 0 
 -- lawful references stay lawful, and stand for what they stood for
 abbrev pub Stays : {E : Type 0} → Model E → ℕ → List Entry → List Entry → Type 0
 Stays M k es fs = (f : Reference) → LawfulIn M es f → LawfulIn M fs f × (of M k fs f ≡ of M k es f)
+
+-- the highest degree of a product
+abbrev pub most_degree : ℕ
+most_degree = 48
+
+-- no entry has a higher degree
+abbrev pub ShallowOver : {E : Type 0} → Model E → List Entry → Type 0
+ShallowOver M es = (n : ℕ) → n ≤ length es → tree_degree (tree M es n) ≤ most_degree

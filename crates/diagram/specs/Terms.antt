@@ -1,21 +1,25 @@
 -- The terms in which contracts speak of a table t: what the other files define over entries, for the domain, the letters
 -- and the entries of t.
-use Rattle.std.specs.Prelude.{◌≡◌, ℕ, List, [], length, Result}
+use Rattle.std.specs.Prelude.{◌≡◌, ℕ, ◌≤◌, List, [], ◌++◌, length, drop, Result, slice_index}
 use Rattle.domain.specs.Model.{Model}
 use Rattle.domain.specs.declared.domain.Domain.{Ghosts}
 use Rattle.domain.specs.declared.fault.Fault.{Fault}
+use Rattle.domain.specs.declared.fault.Fault.TheVariants.{Unlawful, NoRoom}
 use Rattle.domain.specs.declared.number.Number.{Number}
 use Rattle.polynomial.specs.Polynomials.{Polynomial, Poly, constant}
-use Rattle.polynomial.specs.Trees.{Tree, tree_mass}
+use Rattle.polynomial.specs.Trees.{Tree, tree_mass, tree_degree}
 use Rattle.diagram.specs.Answering.{StandsFor as StandsForOver, Agree as AgreeOver, Compared as ComparedOver, UnlawfulOf as UnlawfulOver}
+use Rattle.diagram.specs.Checks.{Else, Never}
 use Rattle.diagram.specs.Counting.{LeastCount as LeastCountOver}
 use Rattle.diagram.specs.Filling.{Named as NamedAmong, Fits as FitsOver, Misfit as MisfitOver, Filled as FilledOver, BadFilling as BadFillingOver}
 use Rattle.diagram.specs.Letters.{Lettered as LetteredOver, BadLetter as BadLetterOver, NoLetter as NoLetterOver}
+use Rattle.diagram.specs.Lines.{entry_text, times_text, plus_text, line}
 use Rattle.diagram.specs.Listed.{listed}
 use Rattle.diagram.specs.Monomials.{CoefficientAt as CoefficientOver, BadMonomial as BadMonomialOver, Found as FoundOver}
 use Rattle.diagram.specs.Nodes.{Moved as MovedOver, Interned as InternedOver, Joins as JoinsOver, Wanted as WantedOver, Joined as JoinedOver, Denied as DeniedOver}
+use Rattle.diagram.specs.Printing.{clipped}
 use Rattle.diagram.specs.Stores.{items}
-use Rattle.diagram.specs.Tables.{tree, of, LightIn, LawfulIn, Kept as KeptOver}
+use Rattle.diagram.specs.Tables.{tree, of, LightIn, LawfulIn, Kept as KeptOver, ShallowOver}
 use Rattle.diagram.specs.declared.entry.Edge.{Edge}
 use Rattle.diagram.specs.declared.entry.Entry.{Entry}
 use Rattle.diagram.specs.declared.entry.Reference.{Reference}
@@ -44,6 +48,14 @@ module _ {D S : Type 0} {B : Ghosts D} where
   -- a table from its making on
   abbrev pub Kept : Table D S B → Type 0
   Kept t = KeptOver (model_of t) (letter_count t) (entries_of t)
+
+  -- no entry has a degree over that of a product
+  abbrev pub Shallow : Table D S B → Type 0
+  Shallow t = ShallowOver (model_of t) (entries_of t)
+
+  -- the degree of the entry with a number
+  abbrev pub degree_of : Table D S B → ℕ → ℕ
+  degree_of t n = tree_degree (tree (model_of t) (entries_of t) n)
 
   -- entry 0 only, with these letters and this capacity
   pub record Made (letters : List ℕ) (capacity : ℕ) (t : Table D S B) : Type 0 where
@@ -167,3 +179,31 @@ module _ {D S : Type 0} {B : Ghosts D} where
   -- 8 only where its entry is missing
   abbrev pub NoLetter : Table D S B → ℕ → Fault → Type 0
   NoLetter t letter e = NoLetterOver (model_of t) (letter_count t) (letters_of t) (entries_of t) (capacity_of t) letter e
+
+  -- what prints: a reference; the entry with a number; the multiplicative and the additive edge of an entry
+  abbrev pub line_of : Table D S B → Reference → List ℕ
+  line_of t f = line (model_of t) (letters_of t) ((model_of t).value f.weight) (tree (model_of t) (entries_of t) f.entry)
+
+  abbrev pub entry_text_of : Table D S B → ℕ → List ℕ
+  entry_text_of t n = entry_text (model_of t) (letters_of t) (tree (model_of t) (entries_of t) n)
+
+  abbrev pub times_text_of : Table D S B → Edge → List ℕ
+  times_text_of t a = times_text (model_of t) ((model_of t).value a.weight) (tree (model_of t) (entries_of t) a.target) (entry_text_of t a.target)
+
+  abbrev pub plus_text_of : Table D S B → Edge → List ℕ
+  plus_text_of t a = plus_text (model_of t) ((model_of t).value a.weight) (tree (model_of t) (entries_of t) a.target) (entry_text_of t a.target)
+
+  -- f is lawful, and its line of n bytes stands at the start of the buffer, which keeps the rest
+  pub record Printed (t : Table D S B) (f : Reference) (before after : List ℕ) (n : ℕ) : Type 0 where
+    pub lawful : Lawful t f
+    pub long : n ≡ length (line_of t f)
+    pub fits : n ≤ length before
+    pub bytes : after ≡ line_of t f ++ drop n before
+
+  -- why it was not: 5, then 12
+  abbrev pub BadPrinting : Table D S B → Reference → List ℕ → Fault → Type 0
+  BadPrinting t f before = Else (Lawful t f) (Unlawful f.entry) (Else (length (line_of t f) ≤ length before) (NoRoom (length before)) Never)
+
+  -- the lengths of the entries' texts, of those with numbers up to i
+  abbrev pub Measured : Table D S B → List ℕ → ℕ → Type 0
+  Measured t lengths i = (j : ℕ) → 1 ≤ j → j ≤ i → slice_index lengths j ≡ clipped (length (entry_text_of t j))

@@ -1,6 +1,6 @@
 // Letters as polynomials.
 ghost use Rattle.std.specs.Prelude.{◌≡◌, MatchResult};
-ghost use Rattle.diagram.specs.Terms.{SameFrame, Moved, Named, BadLetter, Kept, Lettered, NoLetter};
+ghost use Rattle.diagram.specs.Terms.{SameFrame, Moved, Named, BadLetter, Kept, Shallow, Lettered, NoLetter};
 
 use crate::entry::Reference;
 use crate::table::{Open, Table};
@@ -13,6 +13,7 @@ impl<D: Domain> Table<D, Open> {
         ensures frame { SameFrame self.old self.new }
         ensures every { MatchResult result (λ _. Named self.old byte × Moved self.old self.new) (λ e. (self.new ≡ self.old) × BadLetter self.old byte e) }
         ensures kept { Kept self.old → MatchResult result (Lettered self.old self.new byte) (NoLetter self.old byte) }
+        ensures shallow { Shallow self.old → Shallow self.new }
     {
         let place = self.order.place(byte)?;
         self.node(place, Reference::ZERO, Reference::ONE)

@@ -1,5 +1,5 @@
 // Reading a letter order, and finding a letter in it.
-ghost use Rattle.std.specs.Prelude.{◌≡◌, ◌<◌, length, [], ◌∷◌};
+ghost use Rattle.std.specs.Prelude.{◌≡◌, ◌<◌, length, slice_index, [], ◌∷◌};
 ghost use Rattle.std.specs.Bool.{Decides};
 ghost use Rattle.domain.specs.declared.fault.Fault.TheVariants.{BadOrder};
 ghost use Rattle.diagram.specs.Checks.{Checked};
@@ -64,6 +64,14 @@ impl Order {
         ensures { result.now ≡ listed self.now }
     {
         &self.letters[..self.count]
+    }
+
+    // The letter at a place.
+    pub(crate) fn letter(&self, place: u8) -> u8
+        requires { place < length (listed self.now) }
+        ensures { result ≡ slice_index (listed self.now) place }
+    {
+        self.as_slice()[usize::from(place)]
     }
 
     // The place of a letter in the order.

@@ -4,7 +4,7 @@ ghost use Rattle.domain.specs.declared.fault.Fault.TheVariants.{Memory};
 ghost use Rattle.diagram.specs.Making.{Capacity, BadMaking};
 ghost use Rattle.diagram.specs.Orders.{Proper};
 ghost use Rattle.diagram.specs.Stores.{items};
-ghost use Rattle.diagram.specs.Terms.{Made, Kept};
+ghost use Rattle.diagram.specs.Terms.{Made, Kept, Shallow};
 
 use crate::order::Order;
 use crate::store::{MOST_ENTRIES, Store};
@@ -42,6 +42,7 @@ impl<D: Domain + Drop> Table<D, Open> {
     pub fn first(heap: Global, domain: D) -> Result<Table<D, Open>, Fault>
         ensures made { MatchResult result (λ t. (t.domain ≡ domain) × Made (97 ∷ []) 1 t) (λ e. e ≡ Memory) }
         ensures kept { IfOk result (λ t. Kept t) }
+        ensures shallow { IfOk result (λ t. Shallow t) }
     {
         let store = Store::first(heap)?;
         Ok(Table {
@@ -60,6 +61,7 @@ impl<D: Domain> Table<D, Open> {
             (λ _. Proper letters.now × Capacity capacity × (self.new.domain ≡ self.old.domain) × Made letters.now capacity self.new)
             (λ e. (self.new ≡ self.old) × BadMaking letters.now capacity e) }
         ensures kept { IfOk result (λ _. Kept self.new) }
+        ensures shallow { IfOk result (λ _. Shallow self.new) }
     {
         let order = Order::read(letters)?;
         if capacity < 1 || capacity > MOST_ENTRIES {

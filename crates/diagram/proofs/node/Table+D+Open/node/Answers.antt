@@ -1,6 +1,8 @@
 use Rattle.std.proofs.Common.{sym, subst, arith}
 use Rattle.diagram.specs.Nodes.{Denied}
-use Rattle.diagram.specs.Terms.{model_of, letter_count}
+use Rattle.diagram.specs.Tables.{ShallowOver}
+use Rattle.diagram.specs.Terms.{model_of, letter_count, entries_of}
+use Rattle.diagram.proofs.Degrees.{shallow_on}
 use Rattle.diagram.proofs.Joining.{joined_none, joined-factored, denied_factored}
 use Rattle.diagram.proofs.Refusing.{fails, factored_ok}
 use Rattle.diagram.proofs.node.Table+D+Open.node.Goals as goal
@@ -25,3 +27,8 @@ returns-clause-joined g c = λ J.
     let s = c.intern.new.self.store in
     joined-factored (model_of b) (g.met.D.Domain.sound b.domain) (letter_count b) _ _ _ _ J (sym c.if-is_zero.ensures) _ _ b.store.falling (c.in_ok-weight.weight, c.in_ok-weight.p, c.in_ok-weight.q)
     (factored_ok (model_of b) _ _ _ J.left.coded J.right.coded (sym c.if-is_zero.ensures) c.in_ok-weight.ensures) _ s.falling (omega (arith, s.few, s.entries.ok.0, c.intern.ensures.frame.capacity)) c.in_ok-entry.ensures.interned
+
+pub returns-clause-shallow : goal.returns-clause-shallow
+returns-clause-shallow g c = λ s h.
+    let b = c.args.self.now in
+    subst (λ d. ShallowOver (g.D.Domain.model d) (entries_of c.intern.new.self)) (sym c.intern.ensures.frame.domain) (shallow_on (model_of b) _ _ _ _ s c.requires.low h c.in_ok-entry.ensures.interned)
