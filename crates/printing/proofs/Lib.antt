@@ -1,0 +1,10 @@
+pub mod Alike
+pub mod Codes
+pub mod Constants
+pub mod Decimals
+pub mod Depths
+pub mod Lines
+pub mod Places
+pub mod Reading
+pub mod References
+pub mod Weights

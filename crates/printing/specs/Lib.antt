@@ -1,0 +1,3 @@
+pub mod Meant
+pub mod Printed
+pub mod Theorems
