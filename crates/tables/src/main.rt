@@ -1,0 +1,35 @@
+// Fills a table over each domain by hand, closes it, and prints what its references stand for.
+#![tactic(auto)]
+
+mod filled;
+mod shown;
+
+use byte::Bytes;
+use domain::domain::Domain;
+use domain::finite::Finite;
+use filled::filled;
+use residue::Residues;
+use shown::show_table;
+use std::io;
+use whole::Whole;
+
+// One domain's table, by its name.
+fn show<D: Domain + Drop>(rt: &HostRuntime, name: &str, domain: D) -> io::Result<()> {
+    println!(rt; "{name}")?;
+    match filled(rt.alloc(), domain) {
+        Ok(table) => show_table(rt, &table.close()),
+        Err(fault) => rt.println(fault),
+    }
+}
+
+fn main(rt: HostRuntime) -> io::Result<()> {
+    show(&rt, "whole", Whole)?;
+    show(
+        &rt,
+        "residue",
+        Finite {
+            arithmetic: Residues,
+        },
+    )?;
+    show(&rt, "byte", Finite { arithmetic: Bytes })
+}

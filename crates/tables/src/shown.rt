@@ -1,0 +1,42 @@
+// What a closed table answers of its references.
+use diagram::entry::Reference;
+use diagram::table::{Closed, Table};
+use domain::domain::Domain;
+use domain::number::Number;
+use std::io;
+
+// The bytes of a line at most.
+const MOST_BYTES: usize = 64;
+
+// The line of a reference, how many entries it reaches, and its coefficient at a b.
+fn show_reference<D: Domain>(
+    rt: &impl Print,
+    table: &Table<D, Closed>,
+    f: Reference,
+) -> io::Result<()> {
+    let mut buffer = [0; MOST_BYTES];
+    match table.print(f, &mut buffer) {
+        Ok(length) => match str::from_utf8(&buffer[..length]) {
+            Ok(line) => print!(rt; "{line}")?,
+            Err(_) => print!(rt; "no text")?,
+        },
+        Err(fault) => print!(rt; "{fault}")?,
+    }
+    match table.count(f) {
+        Ok(count) => print!(rt; ", entries {count}")?,
+        Err(fault) => print!(rt; ", {fault}")?,
+    }
+    match table.coefficient(f, &[1, 1, 0]) {
+        Ok(code) => println!(rt; ", coefficient {code}"),
+        Err(fault) => println!(rt; ", {fault}"),
+    }
+}
+
+// Each entry with weight 1 and the last with weight 7; a constant; an entry that is not there.
+pub fn show_table<D: Domain>(rt: &impl Print, table: &Table<D, Closed>) -> io::Result<()> {
+    for (weight, entry) in [(1u16, 1), (1, 2), (1, 3), (1, 4), (7, 4), (9, 0), (1, 5)] {
+        let weight = Number::from(weight);
+        show_reference(rt, table, Reference { weight, entry })?;
+    }
+    Ok(())
+}
