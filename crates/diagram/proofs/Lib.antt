@@ -1,6 +1,8 @@
 pub mod Comparing
 pub mod CountingLaws
 pub mod Degrees
+pub mod Differing
+pub mod Grading
 pub mod Joining
 pub mod LawfulLaws
 pub mod Lettering
@@ -8,10 +10,15 @@ pub mod Lining
 pub mod Listing
 pub mod Marking
 pub mod Monomials
+pub mod Multiplying
 pub mod Negating
 pub mod Numbering
+pub mod Parting
 pub mod Putting
 pub mod Refusing
+pub mod Stages
+pub mod Steps
 pub mod Stopping
+pub mod Summing
 pub mod Walking
 pub mod Weighing

@@ -55,6 +55,10 @@ module _ {E : Type 0} (M : Model E) (S : Sound M) where
             ap M.size (neg_is S.laws a) ∙ (S.sizes.product (R.neg R.one) a ∙ omega (arith, ap (λ z. z * M.size a) m))
       ]
 
+  -- the value of the code of a negated element
+  pub negated_value : (w v : Number) → M.coded w ≡ true → v ≡ M.code (M.ring.neg (M.value w)) → M.value v ≡ M.ring.neg (M.value w)
+  negated_value w v c e = ap M.value e ∙ (S.codes.has (M.ring.neg (M.value w)) (omega (arith, size_neg (M.value w), S.codes.small w c))).1
+
   module _ (k : ℕ) (es : List Entry) where
     pub constant-stands : (w v : Number) → w ≡ v → M.coded w ≡ true → (M.coded v ≡ true) × StandsFor M k es (constant M.ring k (M.value v)) (record { weight = w; entry = 0 })
     constant-stands w v e c = (subst (λ z. M.coded z ≡ true) e c, subst (λ z. StandsFor M k es (constant M.ring k (M.value z)) (record { weight = w; entry = 0 })) e (stands w c))

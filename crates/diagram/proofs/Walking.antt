@@ -120,10 +120,10 @@ module _ {E : Type 0} (M : Model E) (S : Sound M) (es : List Entry) (f : Referen
     never d v s = let N = next d v s in multiplied_err M S f.weight d.weight L.coded N.coded N.small
 
     -- the coefficient is that of the next reference, which is lawful
-    pub walked : (d : Edge) (v : List ℕ) → Used e u v d ⊎ Unused e u v d → (c : Number) → ◌≡◌ {A = Result Number Fault} (Ok c) (multiplied M f.weight d.weight) → (y : Result Number Fault)
+    walked_at : (d : Edge) (v : List ℕ) → Used e u v d ⊎ Unused e u v d → (c : Number) → ◌≡◌ {A = Result Number Fault} (Ok c) (multiplied M f.weight d.weight) → (y : Result Number Fault)
         → (Kept M k es → LawfulIn M es (record { weight = c; entry = d.target }) → MatchResult y (CoefficientAt M k es (record { weight = c; entry = d.target }) v) (λ _. ⊥))
         → MatchResult y (CoefficientAt M k es f u) (λ _. ⊥)
-    walked d v s c ok y h = go y (h K lawful)
+    walked_at d v s c ok y h = go y (h K lawful)
       where
         N : Next d v
         N = next d v s
@@ -148,6 +148,13 @@ module _ {E : Type 0} (M : Model E) (S : Sound M) (es : List Entry) (f : Referen
         go (Ok z) C =
             record { coded = C.coded; is = C.is ∙ (ap (λ i. coefficient M.ring k (value M.ring k i (tree M es d.target)) v) value_c ∙ sym N.same) }
         go (Err b) C = C
+
+    pub walked : (d : Edge) (v : List ℕ) → Used e u v d ⊎ Unused e u v d → (next : Reference) → (next.entry ≡ d.target) × ◌≡◌ {A = Result Number Fault} (Ok next.weight) (multiplied M f.weight d.weight) → (y : Result Number Fault)
+        → (Kept M k es → LawfulIn M es next → MatchResult y (CoefficientAt M k es next v) (λ _. ⊥))
+        → MatchResult y (CoefficientAt M k es f u) (λ _. ⊥)
+    walked d v s next is y h =
+        walked_at d v s next.weight is.1 y
+        (subst (λ i. Kept M k es → LawfulIn M es (record { weight = next.weight; entry = i }) → MatchResult y (CoefficientAt M k es (record { weight = next.weight; entry = i }) v) (λ _. ⊥)) is.0 h)
 
 -- how the call ends
 module _ {E : Type 0} (M : Model E) (es : List Entry) (f : Reference) (u v : List ℕ) (k : ℕ) (same : v ≡ u) (long : length u ≡ k) (L : LawfulIn M es f) where

@@ -1,12 +1,14 @@
 -- The masses of the entries, one after the other.
-use Rattle.std.proofs.Common.{◌≡◌, ℕ, zero, suc, ◌+◌, ◌*◌, ◌<◌, ◌≤◌, List, [], ◌∷◌, ◌++◌, length, get_or, take, sym, ap, ◌∙◌, subst, ap₂, suc-mul, zero-mul, arith, length-append}
+use Rattle.std.proofs.Common.{◌≡◌, ℕ, zero, suc, ◌+◌, ◌*◌, ◌<◌, ◌≤◌, List, [], ◌∷◌, ◌++◌, length, get_or, take, Ok, Err, Result, mul_comm, sym, ap, ◌∙◌, subst, ap₂, suc-mul, zero-mul, arith, length-append}
 use lib.ListN.{get_or-append}
 use lib.Seq.{get_or-append_seam}
 use native.Mathlib.Nat.{min-eq_left, min-eq_right}
 use native.Mathlib.Decide.{dec_lt}
 use Rattle.domain.specs.Model.{Model}
+use Rattle.domain.specs.declared.fault.Fault.{Fault}
 use Rattle.polynomial.specs.Entries.{stands, trees}
 use Rattle.polynomial.specs.Trees.{tree_mass}
+use Rattle.diagram.specs.Checks.{Admits}
 use Rattle.diagram.specs.Masses.{capped, weighed}
 use Rattle.diagram.specs.Places.{All, Lower, Falls}
 use Rattle.diagram.specs.Tables.{node_of, nodes, tree, Coded}
@@ -45,6 +47,20 @@ capped-times s n =
     go (suc s) h =
         capped_large (suc s * 4294967295) (omega (arith, suc-mul s 4294967295)) ∙ sym (capped_large (suc s * n) (omega (arith, suc-mul s n)))
 
+capped-product : (m n : ℕ) → capped (capped m * capped n) ≡ capped (m * n)
+capped-product m n = capped-times (capped m) n ∙ (ap capped (mul_comm (capped m) n) ∙ (capped-times n m ∙ ap capped (mul_comm n m)))
+
+-- the test of a product of two masses that stop at the end of their range is exact
+pub product_within : (m n a b l : ℕ) (f : Fault) (r : Result Unit Fault) → l ≤ 2147483647 → a ≡ capped m → b ≡ capped n → Admits (capped (a * b) ≤ l) f r → Admits (m * n ≤ l) f r
+product_within m n a b l f r small ea eb h = go r h
+  where
+    is : capped (a * b) ≡ capped (m * n)
+    is = ap₂ (λ y z. capped (y * z)) ea eb ∙ capped-product m n
+
+    go : (r : Result Unit Fault) → Admits (capped (a * b) ≤ l) f r → Admits (m * n ≤ l) f r
+    go (Ok x) k = (capped_within (m * n) l small).0 (subst (λ z. z ≤ l) is k)
+    go (Err e) k = (λ z. k.0 (subst (λ y. y ≤ l) (sym is) ((capped_within (m * n) l small).1 z)), k.1)
+
 capped_sum : (a b : ℕ) → capped (capped a + capped b) ≡ capped (a + b)
 capped_sum a b =
     elim (dec_lt a 4294967295) [
@@ -56,6 +72,17 @@ capped_sum a b =
       | no l ↦ let e : capped a ≡ 4294967295 = capped_large a (omega arith) in
           capped_large (capped a + capped b) (omega arith) ∙ sym (capped_large (a + b) (omega arith))
     ]
+
+-- and that of a sum
+pub sum_within : (m n a b l : ℕ) (f : Fault) (r : Result Unit Fault) → l ≤ 2147483647 → a ≡ capped m → b ≡ capped n → Admits (capped (a + b) ≤ l) f r → Admits (m + n ≤ l) f r
+sum_within m n a b l f r small ea eb h = go r h
+  where
+    is : capped (a + b) ≡ capped (m + n)
+    is = ap₂ (λ y z. capped (y + z)) ea eb ∙ capped_sum m n
+
+    go : (r : Result Unit Fault) → Admits (capped (a + b) ≤ l) f r → Admits (m + n ≤ l) f r
+    go (Ok x) k = (capped_within (m + n) l small).0 (subst (λ z. z ≤ l) is k)
+    go (Err e) k = (λ z. k.0 (subst (λ y. y ≤ l) (sym is) ((capped_within (m + n) l small).1 z)), k.1)
 
 module _ {E : Type 0} (M : Model E) (es : List Entry) (i : ℕ) (e : Entry) (fall : Falls es) (inside : i < length es) (at : e ≡ get_or es i e) (ms : List ℕ) where
   low : Lower i e

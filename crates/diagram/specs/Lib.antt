@@ -11,8 +11,11 @@ pub mod Masses
 pub mod Monomials
 pub mod Nodes
 pub mod Orders
+pub mod Parts
 pub mod Places
 pub mod Printing
+pub mod Products
 pub mod Stores
+pub mod Sums
 pub mod Tables
 pub mod Terms

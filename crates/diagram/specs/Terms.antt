@@ -6,7 +6,8 @@ use Rattle.domain.specs.declared.domain.Domain.{Ghosts}
 use Rattle.domain.specs.declared.fault.Fault.{Fault}
 use Rattle.domain.specs.declared.fault.Fault.TheVariants.{Unlawful, NoRoom}
 use Rattle.domain.specs.declared.number.Number.{Number}
-use Rattle.polynomial.specs.Polynomials.{Polynomial, Poly, constant}
+use Rattle.polynomial.specs.Diagrams.{InDiagram}
+use Rattle.polynomial.specs.Polynomials.{Polynomial, Poly, constant, difference, scaled}
 use Rattle.polynomial.specs.Trees.{Tree, tree_mass, tree_degree}
 use Rattle.diagram.specs.Answering.{StandsFor as StandsForOver, Agree as AgreeOver, Compared as ComparedOver, UnlawfulOf as UnlawfulOver}
 use Rattle.diagram.specs.Checks.{Else, Never}
@@ -16,10 +17,13 @@ use Rattle.diagram.specs.Letters.{Lettered as LetteredOver, BadLetter as BadLett
 use Rattle.diagram.specs.Lines.{entry_text, times_text, plus_text, line}
 use Rattle.diagram.specs.Listed.{listed}
 use Rattle.diagram.specs.Monomials.{CoefficientAt as CoefficientOver, BadMonomial as BadMonomialOver, Found as FoundOver}
-use Rattle.diagram.specs.Nodes.{Moved as MovedOver, Interned as InternedOver, Joins as JoinsOver, Wanted as WantedOver, Joined as JoinedOver, Denied as DeniedOver}
+use Rattle.diagram.specs.Nodes.{Moved as MovedOver, Interned as InternedOver, Joins as JoinsOver, Wanted as WantedOver, Joined as JoinedOver, Granted as GrantedOver, Denied as DeniedOver}
+use Rattle.diagram.specs.Parts.{Top as TopOver, Cuts as CutsOver, Parted as PartedOver, Falling as FallingOver}
 use Rattle.diagram.specs.Printing.{clipped}
+use Rattle.diagram.specs.Products.{WorkingEntries, Multipliable as MultipliableOver, Scalable as ScalableOver, Ordered as OrderedOver, SmallProduct as SmallProductOver, BadProduct as BadProductOver}
 use Rattle.diagram.specs.Stores.{items}
-use Rattle.diagram.specs.Tables.{tree, of, LightIn, LawfulIn, Kept as KeptOver, ShallowOver}
+use Rattle.diagram.specs.Sums.{Addable as AddableOver, SmallSum as SmallSumOver, BadSum as BadSumOver}
+use Rattle.diagram.specs.Tables.{tree, of, mass_of as mass_over, LightIn, LawfulIn, Kept as KeptOver, ShallowOver}
 use Rattle.diagram.specs.declared.entry.Edge.{Edge}
 use Rattle.diagram.specs.declared.entry.Entry.{Entry}
 use Rattle.diagram.specs.declared.entry.Reference.{Reference}
@@ -164,6 +168,64 @@ module _ {D S : Type 0} {B : Ghosts D} where
   abbrev pub Denied : (t : Table D S B) → (Tree B.carrier → Type 0) → Fault → Type 0
   Denied t W e = DeniedOver (model_of t) (capacity_of t) (entries_of t) W e
 
+  -- an accepted call: r is the lawful reference of h, and the table has grown by exactly the missing ones of W
+  abbrev pub Granted : (t u : Table D S B) → (Tree B.carrier → Type 0) → PolynomialOf t → Reference → Type 0
+  Granted t u W h r = GrantedOver (model_of t) (letter_count t) (capacity_of t) (entries_of t) (entries_of u) W h r
+
+  -- the entries of the diagram of h
+  abbrev pub DiagramOf : (t : Table D S B) → PolynomialOf t → Tree B.carrier → Type 0
+  DiagramOf t h s = InDiagram (model_of t) (letter_count t) h s
+
+  -- the polynomial and the mass of a reference, and the sum of two
+  abbrev pub polynomial_of : (t : Table D S B) → Reference → PolynomialOf t
+  polynomial_of t f = of (model_of t) (letter_count t) (entries_of t) f
+
+  abbrev pub mass_of : Table D S B → Reference → ℕ
+  mass_of t f = mass_over (model_of t) (entries_of t) f
+
+  abbrev pub sum_of : (t : Table D S B) → Reference → Reference → PolynomialOf t
+  sum_of t f g = (Poly (model_of t).ring (letter_count t)).add (polynomial_of t f) (polynomial_of t g)
+
+  -- and the difference
+  abbrev pub difference_of : (t : Table D S B) → Reference → Reference → PolynomialOf t
+  difference_of t f g = difference (model_of t).ring (letter_count t) (polynomial_of t f) (polynomial_of t g)
+
+  -- r is the lawful reference of h, and exactly the missing entries of its diagram were added
+  abbrev pub Gained : (t u : Table D S B) → PolynomialOf t → Reference → Type 0
+  Gained t u h r = Granted t u (DiagramOf t h) h r
+
+  -- x is the higher of the letters of two numbers, of which one has a letter
+  abbrev pub Top : Table D S B → ℕ → ℕ → ℕ → Type 0
+  Top t m n x = TopOver (entries_of t) m n x
+
+  -- f can be split at the letter x
+  abbrev pub Cuts : Table D S B → Reference → ℕ → Type 0
+  Cuts t f x = CutsOver (model_of t) (letter_count t) (entries_of t) f x
+
+  -- f is p plus x times q, with no letter up to x in p and none before x in q
+  abbrev pub Parted : Table D S B → Reference → ℕ → Reference → Reference → Type 0
+  Parted t f x p q = PartedOver (model_of t) (letter_count t) (entries_of t) f x p q
+
+  -- the parts lead no higher than f, and lower where f has the letter x
+  abbrev pub Falling : Table D S B → Reference → ℕ → Reference → Reference → Type 0
+  Falling t f x p q = FallingOver (entries_of t) f x p q
+
+  -- two lawful references of a kept table whose masses add up to the limit at most
+  abbrev pub Addable : Table D S B → Reference → Reference → Type 0
+  Addable t f g = AddableOver (model_of t) (letter_count t) (entries_of t) f g
+
+  -- the same of any table
+  abbrev pub SmallSum : Table D S B → Reference → Reference → Type 0
+  SmallSum t f g = SmallSumOver (model_of t) (entries_of t) f g
+
+  -- why a sum or a difference is refused: 5 for f, then for g, then 6; or a later refusal
+  abbrev pub BadSum : Table D S B → Reference → Reference → (Fault → Type 0) → Fault → Type 0
+  BadSum t f g rest e = BadSumOver (model_of t) (entries_of t) f g rest e
+
+  -- 8 only where there is no room for the diagram of h, the sum or the difference
+  abbrev pub NoSum : (t : Table D S B) → Reference → Reference → PolynomialOf t → Fault → Type 0
+  NoSum t f g h e = BadSum t f g (Denied t (DiagramOf t h)) e
+
   -- the order has the letter
   abbrev pub Named : Table D S B → ℕ → Type 0
   Named t letter = NamedAmong (letters_of t) letter
@@ -207,3 +269,33 @@ module _ {D S : Type 0} {B : Ghosts D} where
   -- the lengths of the entries' texts, of those with numbers up to i
   abbrev pub Measured : Table D S B → List ℕ → ℕ → Type 0
   Measured t lengths i = (j : ℕ) → 1 ≤ j → j ≤ i → slice_index lengths j ≡ clipped (length (entry_text_of t j))
+
+  -- the product of two references, and a coefficient times a reference
+  abbrev pub product_of : (t : Table D S B) → Reference → Reference → PolynomialOf t
+  product_of t f g = (Poly (model_of t).ring (letter_count t)).mul (polynomial_of t f) (polynomial_of t g)
+
+  abbrev pub scaled_of : (t : Table D S B) → Number → Reference → PolynomialOf t
+  scaled_of t a f = scaled (model_of t).ring (letter_count t) ((model_of t).value a) (polynomial_of t f)
+
+  -- the entries of the working polynomials of two references
+  abbrev pub WorkingOf : (t : Table D S B) → Reference → Reference → Tree B.carrier → Type 0
+  WorkingOf t f g s = WorkingEntries (model_of t) (letter_count t) (polynomial_of t f) (polynomial_of t g) s
+
+  -- two lawful references of a kept table whose masses multiplied are at most the limit; a code and a lawful reference
+  abbrev pub Multipliable : Table D S B → Reference → Reference → Type 0
+  Multipliable t f g = MultipliableOver (model_of t) (letter_count t) (entries_of t) f g
+
+  abbrev pub Scalable : Table D S B → Number → Reference → Type 0
+  Scalable t a f = ScalableOver (model_of t) (letter_count t) (entries_of t) a f
+
+  -- of f and g, u is the one with the higher letter x, or f where both have it, and o is the other
+  abbrev pub Ordered : Table D S B → Reference → Reference → ℕ → Reference → Reference → Type 0
+  Ordered t f g x u o = OrderedOver (entries_of t) f g x u o
+
+  -- two lawful references of any table whose masses multiplied are at most the limit, and whose degrees add up to a product's
+  abbrev pub SmallProduct : Table D S B → Reference → Reference → Type 0
+  SmallProduct t f g = SmallProductOver (model_of t) (entries_of t) f g
+
+  -- why a product is refused: 5 for f, then for g, then 6, then 7; or a later refusal
+  abbrev pub BadProduct : Table D S B → Reference → Reference → (Fault → Type 0) → Fault → Type 0
+  BadProduct t f g rest e = BadProductOver (model_of t) (entries_of t) f g rest e

@@ -1,8 +1,9 @@
 // The coefficient at a monomial.
-ghost use Rattle.std.specs.Prelude.{◌≡◌, ℕ, ◌<◌, ◌≤◌, ◌≢◌, ◌⊎◌, length, MatchBool, MatchResult, slice_index};
+ghost use Rattle.std.specs.Prelude.{◌≡◌, ℕ, ◌<◌, ◌≤◌, ◌≢◌, ◌⊎◌, length, Ok, Err, MatchBool, MatchResult, slice_index};
+ghost use Rattle.domain.specs.Answers.{multiplied};
 ghost use Rattle.diagram.specs.Checks.{Never};
 ghost use Rattle.diagram.specs.Monomials.{Spent, Used, Unused};
-ghost use Rattle.diagram.specs.Terms.{entries_of, letter_count, Lawful, Kept, CoefficientAt, BadMonomial, Found};
+ghost use Rattle.diagram.specs.Terms.{model_of, entries_of, letter_count, Lawful, Kept, CoefficientAt, BadMonomial, Found};
 
 use crate::entry::{Edge, Entry, Reference};
 use crate::order::MOST_LETTERS;
@@ -33,6 +34,19 @@ fn step(e: Entry, left: &mut [u8]) -> Edge
 }
 
 impl<D: Domain, S> Table<D, S> {
+    // A weight times an edge.
+    pub(crate) fn along(&self, weight: Number, edge: Edge) -> Result<Reference, Fault>
+        ensures { MatchResult result
+            (λ r. (r.entry ≡ edge.target) × (Ok r.weight ≡ multiplied (model_of self.now) weight edge.weight))
+            (λ e. Err e ≡ multiplied (model_of self.now) weight edge.weight) }
+    {
+        let weight = self.domain.product(weight, edge.weight)?;
+        Ok(Reference {
+            weight,
+            entry: edge.target,
+        })
+    }
+
     // The coefficient of a reference at what is left of a monomial.
     fn walk(&self, f: Reference, left: &mut [u8]) -> Result<Number, Fault>
         requires inside { f.entry ≤ length (entries_of self.now) }
@@ -47,14 +61,8 @@ impl<D: Domain, S> Table<D, S> {
             });
         }
         let edge = step(self.store.entries[f.entry - 1], left);
-        let weight = self.domain.product(f.weight, edge.weight)?;
-        self.walk(
-            Reference {
-                weight,
-                entry: edge.target,
-            },
-            left,
-        )
+        let next = self.along(f.weight, edge)?;
+        self.walk(next, left)
     }
 
     // The code of the coefficient at the monomial with these exponents, one for each letter.

@@ -1,5 +1,5 @@
 // Constants, and negation.
-ghost use Rattle.std.specs.Prelude.{◌≡◌, true, pos, MatchResult};
+ghost use Rattle.std.specs.Prelude.{◌≡◌, true, pos, IfOk, MatchResult};
 ghost use Rattle.domain.specs.Numbers.{number as numbered};
 ghost use Rattle.domain.specs.declared.fault.Fault.TheVariants.{NoCode, Unlawful};
 ghost use Rattle.diagram.specs.Checks.{Checked};
@@ -27,6 +27,7 @@ impl<D: Domain> Table<D, Open> {
     // The negated polynomial.
     pub fn negation(&self, f: Reference) -> Result<Reference, Fault>
         ensures fault { MatchResult result (λ g. g.entry ≡ f.entry) (λ e. e ≡ Unlawful f.entry) }
+        ensures opposite { IfOk result (λ g. (model_of self.now).value g.weight ≡ (model_of self.now).ring.neg ((model_of self.now).value f.weight)) }
         ensures negated { Checked (Lawful self.now f) (Unlawful f.entry) (StandsFor self.now (negated_of self.now f)) result }
     {
         self.lawful(f)?;

@@ -1,12 +1,12 @@
 // Filling a table by hand, entry by entry.
-ghost use Rattle.std.specs.Prelude.{◌≡◌, ◌<◌, ◌≤◌, true, length, MatchResult};
+ghost use Rattle.std.specs.Prelude.{◌≡◌, ◌<◌, ◌≤◌, true, length, take, MatchResult};
 ghost use Rattle.domain.specs.Numbers.{no_code};
 ghost use Rattle.domain.specs.declared.fault.Fault.TheVariants.{Unlawful, Full};
 ghost use Rattle.diagram.specs.Checks.{Admits, Never};
 ghost use Rattle.diagram.specs.Filling.{Appended};
 ghost use Rattle.diagram.specs.Places.{Lower};
 ghost use Rattle.diagram.specs.Stores.{items};
-ghost use Rattle.diagram.specs.Terms.{model_of, SameFrame, Fits, Misfit, Filled, BadFilling};
+ghost use Rattle.diagram.specs.Terms.{model_of, entries_of, SameFrame, Fits, Misfit, Filled, BadFilling};
 
 use crate::entry::{Edge, Entry};
 use crate::store::Store;
@@ -50,9 +50,25 @@ impl Store {
         self.entries.push_reserved(e);
         self.entries.len()
     }
+
+    // Takes away the entries after the first n.
+    fn truncate(&mut self, n: usize)
+        ensures room { self.new.capacity ≡ self.old.capacity }
+        ensures rest { items self.new ≡ take n (items self.old) }
+    {
+        self.entries.truncate(n);
+    }
 }
 
 impl<D: Domain> Table<D, Open> {
+    // Takes away the entries after the first n.
+    pub(crate) fn truncate(&mut self, n: usize)
+        ensures frame { SameFrame self.old self.new }
+        ensures rest { entries_of self.new ≡ take n (entries_of self.old) }
+    {
+        self.store.truncate(n);
+    }
+
     // Refuses a weight that is no code.
     fn need_code(&self, a: Number) -> Result<(), Fault>
         ensures { Admits ((model_of self.now).coded a ≡ true) (no_code a) result }

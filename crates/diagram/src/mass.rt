@@ -1,14 +1,17 @@
 // Mass, by one pass over the entries.
 ghost use Rattle.std.specs.Prelude.{◌≡◌, ◌<◌, ◌≤◌, true, length};
+ghost use Rattle.domain.specs.declared.fault.Fault.TheVariants.{OverLimit};
+ghost use Rattle.diagram.specs.Checks.{Admits};
 ghost use Rattle.diagram.specs.Tables.{Coded};
 ghost use Rattle.diagram.specs.Masses.{capped, weighed};
-ghost use Rattle.diagram.specs.Terms.{model_of, entries_of, entry_mass};
+ghost use Rattle.diagram.specs.Terms.{model_of, entries_of, entry_mass, mass_of};
 
-use crate::entry::Entry;
+use crate::entry::{Entry, Reference};
 use crate::store::MOST_NUMBERS;
 use crate::table::Table;
 use arrayvec::ArrayVec;
 use domain::domain::Domain;
+use domain::fault::Fault;
 use domain::number::Number;
 
 impl<D: Domain, S> Table<D, S> {
@@ -46,5 +49,25 @@ impl<D: Domain, S> Table<D, S> {
             masses.push(mass);
         }
         masses.as_slice()[n]
+    }
+
+    // The mass of a reference, or the end of the range where it is past it.
+    pub(crate) fn reference_mass(&self, f: Reference) -> u32
+        requires { f.entry ≤ length (entries_of self.now) }
+        ensures { (model_of self.now).coded f.weight ≡ true → result ≡ capped (mass_of self.now f) }
+    {
+        self.size_of(f.weight).saturating_mul(self.mass(f.entry))
+    }
+
+    // Refuses a mass over the limit.
+    pub(crate) fn within_limit(&self, mass: u32) -> Result<(), Fault>
+        ensures { Admits (mass ≤ (model_of self.now).limit) (OverLimit (model_of self.now).limit) result }
+    {
+        let limit = self.domain.limit();
+        if mass <= limit {
+            Ok(())
+        } else {
+            Err(Fault::OverLimit { limit })
+        }
     }
 }

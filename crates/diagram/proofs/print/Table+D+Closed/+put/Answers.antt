@@ -1,4 +1,4 @@
-use Rattle.std.proofs.Common.{◌≡◌, ◌+◌, ◌≤◌, [], ◌∷◌, ◌++◌, length, codes, ap, ap₂, sym, subst, ◌∙◌, get_or, arith, rules}
+use Rattle.std.proofs.Common.{◌+◌, ◌≤◌, [], ◌∷◌, ◌++◌, length, codes, ap, sym, subst, ◌∙◌, arith, rules}
 use Rattle.std.specs.Fmt.{signed_decimal}
 use Rattle.diagram.specs.Printing.{Puts}
 use Rattle.diagram.specs.Terms.{model_of, letters_of, entries_of, line_of, entry_text_of, times_text_of, plus_text_of}

@@ -13,14 +13,14 @@ returns-else-is_spent g t c = λ K L.
     let b = c.args.self.now in
     stopped (model_of b) (g.met.D.Domain.sound b.domain) _ c.args.f (letter_count b) c.args.left.now c.requires.long K L c.if-f-eq0.true false c.if-is_spent.ensures _ refl
 
-pub returns-in_err-weight : goal.returns-in_err-weight
-returns-in_err-weight g t c = λ K L.
+pub returns-in_err-next : goal.returns-in_err-next
+returns-in_err-next g t c = λ K L.
     let b = c.args.self.now in
     absurd (never (model_of b) (g.met.D.Domain.sound b.domain) _ c.args.f (letter_count b) c.args.left.now c.requires.long K L b.store.falling c.if-f-eq0.false c.index.result.now c.index.ensures
-    c.step-edge.result c.step-edge.new.left c.step-edge.ensures _ c.in_err-weight.ensures)
+    c.step-edge.result c.step-edge.new.left c.step-edge.ensures _ c.in_err-next.ensures)
 
 pub returns : goal.returns
 returns g t c = λ K L.
     let b = c.args.self.now in
     walked (model_of b) (g.met.D.Domain.sound b.domain) _ c.args.f (letter_count b) c.args.left.now c.requires.long K L b.store.falling c.if-f-eq0.false c.index.result.now c.index.ensures
-    c.step-edge.result c.step-edge.new.left c.step-edge.ensures c.in_ok-weight.weight c.in_ok-weight.ensures c.walk.result c.walk.ensures
+    c.step-edge.result c.step-edge.new.left c.step-edge.ensures c.in_ok-next.next c.in_ok-next.ensures c.walk.result c.walk.ensures
