@@ -1,13 +1,13 @@
-// Fills a table over each domain by hand, closes it, and prints what its references stand for.
+// Builds a table over each domain by sums and products, closes it, and prints what its references stand for.
 #![tactic(auto)]
 
-mod filled;
+mod built;
 mod shown;
 
+use built::{Built, build};
 use byte::Bytes;
 use domain::domain::Domain;
 use domain::finite::Finite;
-use filled::filled;
 use residue::Residues;
 use shown::show_table;
 use std::io;
@@ -16,8 +16,8 @@ use whole::Whole;
 // One domain's table, by its name.
 fn show<D: Domain + Drop>(rt: &HostRuntime, name: &str, domain: D) -> io::Result<()> {
     println!(rt; "{name}")?;
-    match filled(rt.alloc(), domain) {
-        Ok(table) => show_table(rt, &table.close()),
+    match build(rt.alloc(), domain) {
+        Ok(Built { table, shown }) => show_table(rt, &table.close(), &shown),
         Err(fault) => rt.println(fault),
     }
 }

@@ -32,11 +32,15 @@ fn show_reference<D: Domain>(
     }
 }
 
-// Each entry with weight 1 and the last with weight 7; a constant; an entry that is not there.
-pub fn show_table<D: Domain>(rt: &impl Print, table: &Table<D, Closed>) -> io::Result<()> {
-    for (weight, entry) in [(1u16, 1), (1, 2), (1, 3), (1, 4), (7, 4), (9, 0), (1, 5)] {
-        let weight = Number::from(weight);
-        show_reference(rt, table, Reference { weight, entry })?;
+// The references, and one to an entry that is not there.
+pub fn show_table<D: Domain>(
+    rt: &impl Print,
+    table: &Table<D, Closed>,
+    shown: &[Reference],
+) -> io::Result<()> {
+    for f in shown {
+        show_reference(rt, table, *f)?;
     }
-    Ok(())
+    let weight = Number::ONE;
+    show_reference(rt, table, Reference { weight, entry: 65 })
 }
