@@ -1,10 +1,12 @@
 -- The test of a reference.
-use Rattle.std.proofs.Common.{◌≡◌, ℕ, ◌*◌, ◌≤◌, leb, leb-true, Bool, true, false, eqb, ◌≢◌, List, ℤ, pos, negsuc, sym, refl, ap, ◌∙◌, subst, zero-mul, arith}
+use Rattle.std.proofs.Common.{◌≡◌, ℕ, ◌*◌, ◌≤◌, leb, leb-true, Bool, true, false, cond, Ok, Err, Result, eqb, ◌≢◌, List, ℤ, pos, negsuc, sym, refl, ap, ◌∙◌, subst, zero-mul, arith}
 use mathlib.Core.Bool.{false≢true}
 use Rattle.std.specs.Bool.{Decides}
 use Rattle.std.proofs.lemmas.Bool.{eqb-true, eqb-false, le-leb}
 use Rattle.domain.specs.Model.{Model, Sound}
-use Rattle.domain.specs.Numbers.{number, is_zero as zero_code}
+use Rattle.domain.specs.Answers.{sized}
+use Rattle.domain.specs.Numbers.{number, no_code, is_zero as zero_code}
+use Rattle.domain.specs.declared.fault.Fault.{Fault}
 use Rattle.domain.specs.declared.number.Number.{Number}
 use Rattle.polynomial.specs.Trees.{tree_mass}
 use Rattle.polynomial.proofs.ElementFacts.{size_zero}
@@ -35,6 +37,20 @@ within_tested M S s t m r l em er el = (
     is = er ∙ (ap (λ z. capped (s * z)) em ∙ capped-times s t)
 
 module _ {E : Type 0} (M : Model E) where
+  -- a size that is answered is the element's, and the number a code
+  pub sized_ok : (w : Number) (s : ℕ) → ◌≡◌ {A = Result ℕ Fault} (Ok s) (sized M w) → (M.coded w ≡ true) × (s ≡ M.size (M.value w))
+  sized_ok w s e = go (M.coded w) refl
+    where
+      go : (b : Bool) → M.coded w ≡ b → (M.coded w ≡ true) × (s ≡ M.size (M.value w))
+      go true q = (q, cc (e, ap (λ (b : Bool). cond {A = Result ℕ Fault} b (Ok (M.size (M.value w))) (Err (no_code w))) q))
+      go false q = absurd (let z : ◌≡◌ {A = Result ℕ Fault} (Ok s) (Err (no_code w)) = cc (e, ap (λ (b : Bool). cond {A = Result ℕ Fault} b (Ok (M.size (M.value w))) (Err (no_code w))) q) in let y : ◌≡◌ {A = ℕ} 0 1 = cc in omega arith)
+
+  -- and one that is refused is the size of no code
+  pub sized_err : (w : Number) (f : Fault) → ◌≡◌ {A = Result ℕ Fault} (Err f) (sized M w) → M.coded w ≢ true
+  sized_err w f e q =
+      let z : ◌≡◌ {A = Result ℕ Fault} (Err f) (Ok (M.size (M.value w))) = cc (e, ap (λ (b : Bool). cond {A = Result ℕ Fault} b (Ok (M.size (M.value w))) (Err (no_code w))) q) in
+      let y : ◌≡◌ {A = ℕ} 0 1 = cc in omega arith
+
   module _ (S : Sound M) (es : List Entry) (f : Reference) where
     value-zero : zero_code f.weight ≡ true → M.value f.weight ≡ M.ring.zero
     value-zero z = ap M.value (zero_only f.weight z) ∙ S.codes.zero.1

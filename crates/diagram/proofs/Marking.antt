@@ -15,6 +15,15 @@ module _ (ms : List Bool) where
   abbrev next : ℕ → Bool → List ℕ
   next i b = cond b (suc i ∷ marked ms i) (marked ms i)
 
+  -- no more are marked than there are numbers
+  pub length_marked : (n : ℕ) → length (marked ms n) ≤ n
+  length_marked zero = omega arith
+  length_marked (suc i) = go (length_marked i) (get_or ms (suc i) false)
+    where
+      go : length (marked ms i) ≤ i → (b : Bool) → length (next i b) ≤ suc i
+      go h true = omega arith
+      go h false = omega arith
+
   -- how many there are, as the chain over the marks counts them
   pub count_marked : (n : ℕ) → n < length ms → count_by (λ (b : Bool). b) (take n (drop 1 ms)) ≡ length (marked ms n)
   count_marked zero h = refl

@@ -1,5 +1,5 @@
 // Finding an equal item in a list.
-ghost use Rattle.std.specs.Prelude.{◌≡◌};
+ghost use Rattle.std.specs.Prelude.{◌≡◌, ◌≢◌, MatchBool};
 ghost use Rattle.std.specs.Bool.{Decides};
 ghost use Rattle.diagram.specs.Equality.{decides_byte, decides_number, decides_edge, decides_entry, decides_reference};
 ghost use Rattle.diagram.specs.Places.{Located};
@@ -7,7 +7,13 @@ ghost use Rattle.diagram.specs.Places.{Located};
 use crate::entry::{Edge, Entry, Reference};
 use domain::number::Number;
 
-// Equality that holds of the same items alone.
+// Items that can be told equal, by whatever test their type has.
+pub trait Same {
+    fn same(&self, other: &Self) -> bool
+        ensures { MatchBool result (self.now ≡ other.now) (self.now ≢ other.now) };
+}
+
+// A type whose `==` holds of the same items alone.
 pub trait Exact: Eq {
     ghost exact: { (x y : Self) → Decides (Self.PartialEq.eq x y) (x ≡ y) };
 }
@@ -32,9 +38,16 @@ impl Exact for Reference {
     ghost exact = { decides_reference };
 }
 
+// Its `==` is the test.
+impl<T: Exact> Same for T {
+    fn same(&self, other: &T) -> bool {
+        *self == *other
+    }
+}
+
 // The first place of x.
-pub fn position<T: Exact>(items: &[T], x: &T) -> Option<usize>
+pub fn position<T: Same>(items: &[T], x: &T) -> Option<usize>
     ensures { Located items.now x.now result }
 {
-    items.iter().position(|y| *y == *x)
+    items.iter().position(|y| y.same(x))
 }

@@ -59,8 +59,8 @@ many_alike e k (suc j) h =
     let long : max_records + 1 ≤ length (negated e (k + j)) = omega arith in
     record { front = more.front ∙ sym (take-append-le (max_records + 1) (negated e (k + j)) (Negation (last_number (negated e (k + j))) ∷ []) long) ∙ ap (λ n. take (max_records + 1) (negated e n)) (sym (add-suc k j)) }
 
-negated_length : (e : List Record) (m : ℕ) → m ≤ length (negated e m)
-negated_length e zero = omega arith
+negated_length : (e : List Record) (m : ℕ) → length (negated e m) ≡ length e + m
+negated_length e zero = sym (add-zero (length e))
 negated_length e (suc m) = omega (arith, negated_length e m, length_push (negated e m) (Negation (last_number (negated e m))))
 
 pub counted_alike : (e : List Record) (m : ℕ) → Alike (negated e (counted m)) (negated e m)

@@ -153,7 +153,7 @@ follow_settle st l ls x y w more lev out = go (operand_of st) refl
       wrote = subst (Wrote y.tape) (ap (settled (past_state (past_levels (l ∷ ls)) st)) w.state_is ∙ settled_is st f (past_levels (l ∷ ls)) v) (more _ w.holds.wrote);
     }
 
-pub follow_finish : (st : State) (l : Level) (ls : List Level) (x : Reader) (t : Tape) → (x.state ≡ Operand → ⊥) → (x.state ≡ Caret → ⊥) → length x.outer.items ≡ 0 → Follows st l ls x → Adds x.tape t (λ e. wholed e x.state x.level) → Finished (at_end (operand_of st) l ls) (Some t)
+pub follow_finish : (st : State) (l : Level) (ls : List Level) (x : Reader) (t : Tape) → (x.state ≡ Operand → ⊥) → (x.state ≡ Caret → ⊥) → length x.outer.items ≡ 0 → Follows st l ls x → Adds x.tape t (λ e. wholed e x.state x.level) → Finished (at_end (operand_of st) l ls) (Some tt) t
 follow_finish st l (m ∷ ls) x t a b d w more = absurd (omega (arith, ap length w.holds.outer_is, frames_length (m ∷ ls)))
 follow_finish awaiting l [] x t a b d w more = absurd (a w.state_is)
 follow_finish (in_number n) l [] x t a b d w more = after_sum (in_number n) _ l [] x t refl w more

@@ -60,12 +60,12 @@ breaks text i x y r h s = go (move (classify (get_or text i 0)) r.st r.l r.ls) (
 all_walked : (text : List ℕ) (i : ℕ) (x : Reader) (r : Reading text i x) → length text ≤ i → walk (Some start) text ≡ Some (config r.st r.l r.ls)
 all_walked text i x r h = ap (walk (Some start)) (sym (take_all i text h)) ∙ r.walked
 
-pub unfinished : (text : List ℕ) (i : ℕ) (x : Reader) (r : Reading text i x) → length text ≤ i → Finished (at_end (operand_of r.st) r.l r.ls) None → Broken text (length text)
-unfinished text i x r h s =
+pub unfinished : (text : List ℕ) (i : ℕ) (x : Reader) (t : Tape) (r : Reading text i x) → length text ≤ i → Finished (at_end (operand_of r.st) r.l r.ls) None t → Broken text (length text)
+unfinished text i x t r h s =
     let at = all_walked text i x r h in
     go (at_end (operand_of r.st) r.l r.ls) (ap finish at) s
   where
-    go : (o : Option Formula) → finish (walk (Some start) text) ≡ o → Finished o None → Broken text (length text)
+    go : (o : Option Formula) → finish (walk (Some start) text) ≡ o → Finished o None t → Broken text (length text)
     go None e s = record {
       no_formula = λ f p. let q = complete f text p in cc;
       within = omega arith;
@@ -80,12 +80,12 @@ pub record Read (text : List ℕ) (t : Tape) : Type 0 where
   pub spelled : Spells formula text
   pub wrote : Wrote t (put [] formula)
 
-pub finished : (text : List ℕ) (i : ℕ) (x : Reader) (t : Tape) (r : Reading text i x) → length text ≤ i → Finished (at_end (operand_of r.st) r.l r.ls) (Some t) → Read text t
+pub finished : (text : List ℕ) (i : ℕ) (x : Reader) (t : Tape) (r : Reading text i x) → length text ≤ i → Finished (at_end (operand_of r.st) r.l r.ls) (Some tt) t → Read text t
 finished text i x t r h s =
     let at = all_walked text i x r h in
     go (at_end (operand_of r.st) r.l r.ls) (ap finish at) s
   where
-    go : (o : Option Formula) → finish (walk (Some start) text) ≡ o → Finished o (Some t) → Read text t
+    go : (o : Option Formula) → finish (walk (Some start) text) ≡ o → Finished o (Some tt) t → Read text t
     go None e s = absurd s
     go (Some f) e s = record { formula = f; spelled = sound f text e; wrote = s }
 
@@ -103,5 +103,5 @@ copied text t r h =
 pub stepped : (text : List ℕ) (i : ℕ) (x y : Reader) (r : Reading text i x) (k : Class) (o o' : Option (Unit {0})) → k ≡ classify (get_or text i 0) → o ≡ o' → Steps k x o y → Arrived (move (classify (get_or text i 0)) r.st r.l r.ls) o' y
 stepped text i x y r k o o' e p h = subst (λ c. Arrived (move c r.st r.l r.ls) o' y) e (subst (λ c. Arrived (move k r.st r.l r.ls) c y) p (h r.st r.l r.ls r.follows))
 
-pub ended : (text : List ℕ) (i : ℕ) (x : Reader) (r : Reading text i x) (o o' : Option Tape) → o ≡ o' → Ends x o → Finished (at_end (operand_of r.st) r.l r.ls) o'
-ended text i x r o o' p h = subst (Finished (at_end (operand_of r.st) r.l r.ls)) p (h r.st r.l r.ls r.follows)
+pub ended : (text : List ℕ) (i : ℕ) (x y : Reader) (r : Reading text i x) (o o' : Option (Unit {0})) → o ≡ o' → Ends x o y → Finished (at_end (operand_of r.st) r.l r.ls) o' y.tape
+ended text i x y r o o' p h = subst (λ c. Finished (at_end (operand_of r.st) r.l r.ls) c y.tape) p (h r.st r.l r.ls r.follows)

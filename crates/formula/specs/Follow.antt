@@ -112,8 +112,8 @@ abbrev pub StandsAt : Reader → Config → Unit {0} → Type 0
 StandsAt x (config st l ls) u = Follows st l ls x
 
 -- the tape t holds the records of a formula
-abbrev pub HoldsFlow : Formula → Tape → Type 0
-HoldsFlow f t = Wrote t (put [] f)
+abbrev pub HoldsFlow : Tape → Formula → Unit {0} → Type 0
+HoldsFlow t f u = Wrote t (put [] f)
 
 -- there are both, of which P holds, or neither
 abbrev pub Matched : {A B : Type 0} → (A → B → Type 0) → Option A → Option B → Type 0
@@ -135,9 +135,9 @@ abbrev pub Settled : Option Formula → Level → List Level → Reader → Type
 Settled None l ls x = Unit {0}
 Settled (Some f) l ls x = Holds l ls (put (past_levels (l ∷ ls)) f) x
 
--- the tape of the formula, if there is one
-abbrev pub Finished : Option Formula → Option Tape → Type 0
-Finished o r = Matched HoldsFlow o r
+-- whether there is a formula; then the tape t has its records
+abbrev pub Finished : Option Formula → Option (Unit {0}) → Tape → Type 0
+Finished o r t = Matched (HoldsFlow t) o r
 
 -- the reader's form of a configuration's state
 abbrev pub next_state : Option Config → Option CodeState
@@ -180,5 +180,5 @@ abbrev pub Settles : Reader → Reader → Type 0
 Settles x y = (s : State) (l : Level) (ls : List Level) → Follows s l ls x → Settled (operand_of s) l ls y
 
 -- the text may end exactly where the automaton ends with a formula, whose records are then on the tape
-abbrev pub Ends : Reader → Option Tape → Type 0
-Ends x r = (s : State) (l : Level) (ls : List Level) → Follows s l ls x → Finished (at_end (operand_of s) l ls) r
+abbrev pub Ends : Reader → Option (Unit {0}) → Reader → Type 0
+Ends x r y = (s : State) (l : Level) (ls : List Level) → Follows s l ls x → Finished (at_end (operand_of s) l ls) r y.tape

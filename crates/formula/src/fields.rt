@@ -62,6 +62,7 @@ impl From<Record> for Fields {
 
 impl Fields {
     // The record with these fields, if it may stand at a place.
+    #[inline]
     pub fn record(self, place: u16) -> Result<Record, Fault>
         ensures { result ≡ formed place self }
     {
@@ -89,6 +90,7 @@ impl Fields {
     }
 
     // The operands of a record that joins two, if both are records before the place.
+    #[inline]
     fn operands(self, place: u16) -> Result<(u16, u16), Fault>
         ensures { result ≡ two_operands place self }
     {

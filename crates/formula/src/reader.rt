@@ -18,7 +18,7 @@ pub struct Reader {
     level: Level,
     // One level for each open parenthesis.
     outer: ArrayVec<Level, MAX_OPEN>,
-    tape: Tape,
+    pub tape: Tape,
 }
 
 // A method for one kind of byte answers the state past it, or `None` where no formula goes on with it.
@@ -140,15 +140,14 @@ impl Reader {
         Some(())
     }
 
-    // The records of the formula, if the text may end here.
-    pub fn finish(self) -> Option<Tape>
-        ensures { Ends self result }
+    // Writes the last records of the formula, if the text may end here. The tape stays where it is: it is 4 KiB.
+    pub fn finish(&mut self) -> Option<()>
+        ensures { Ends self.old result self.new }
     {
         if !self.outer.is_empty() || matches!(self.state, State::Operand | State::Caret) {
             return None;
         }
-        let mut tape = self.tape;
-        tape.close_sum(self.state, self.level);
-        Some(tape)
+        self.tape.close_sum(self.state, self.level);
+        Some(())
     }
 }

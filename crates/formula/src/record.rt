@@ -39,6 +39,7 @@ impl Record {
     }
 
     // The record with these bytes, if it may stand at a place of a flow: `encode` makes the bytes again.
+    #[inline]
     pub fn decode(place: u16, bytes: [u8; RECORD_SIZE]) -> Result<Record, Fault>
         ensures value { result ≡ decoded place bytes }
         ensures undone { (item : Record) → result ≡ Ok item → Stands place bytes item }

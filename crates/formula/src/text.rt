@@ -21,10 +21,10 @@ pub fn read(text: &[u8], buffer: &mut [u8]) -> Result<usize, Fault>
             .step(Class::from(*byte))
             .ok_or(Fault::NoFormula { place })?;
     }
-    let tape = reader
+    reader
         .finish()
         .ok_or(Fault::NoFormula { place: text.len() })?;
-    let records = tape.records();
+    let records = reader.tape.records();
     let count = records.len();
     let room = buffer.len();
     if count > MAX_RECORDS || RECORD_SIZE * count > room {

@@ -27,25 +27,24 @@ loop-place-preserved c =
     let some : c.step.result ≡ Some tt = grind (arith, common_steps) in
     goes_on text i _ _ r (omega arith) (stepped text i _ _ r _ _ (Some tt) c.from.ensures some c.step.ensures)
 
-pub returns-in_err-tape : goal.returns-in_err-tape
-returns-in_err-tape c =
+pub returns-in_err-ok_or-2 : goal.returns-in_err-ok_or-2
+returns-in_err-ok_or-2 c =
     let text = c.args.text.now in
     let i = c.loop-place.place in
     let r = c.loop-place.invariant in
     let none : c.finish.result ≡ None = grind (arith, common_steps) in
-    let is : c.from_residual-in_err-tape.result ≡ Err (NoFormula (length text)) = grind (arith, common_steps) in
+    let is : c.from_residual-in_err-ok_or-2.result ≡ Err (NoFormula (length text)) = grind (arith, common_steps) in
     subst (Answer text c.args.buffer.now c.args.buffer.now) (sym is)
-    (refl, (omega arith, unfinished text i _ r c.loop-place-test.false (ended text i _ r _ None none c.finish.ensures)))
+    (refl, (omega arith, unfinished text i _ c.finish.new.self.tape r c.loop-place-test.false (ended text i _ c.finish.new.self r _ None none c.finish.ensures)))
 
 pub returns-then-count-gt-MAX_RECORDS : goal.returns-then-count-gt-MAX_RECORDS
 returns-then-count-gt-MAX_RECORDS c =
     let text = c.args.text.now in
     let i = c.loop-place.place in
     let r = c.loop-place.invariant in
-    let tape = c.in_ok-tape.tape in
-    let some : c.finish.result ≡ Some tape = grind (arith, common_steps) in
-    let got = finished text i _ tape r c.loop-place-test.false (ended text i _ r _ (Some tape) some c.finish.ensures) in
-    let n = ap length c.records-records.ensures ∙ long text tape got in
+    let some : c.finish.result ≡ Some tt = grind (arith, common_steps) in
+    let got = finished text i _ c.finish.new.self.tape r c.loop-place-test.false (ended text i _ c.finish.new.self r _ (Some tt) some c.finish.ensures) in
+    let n = ap length c.records-records.ensures ∙ long text _ got in
     let way : (max_records < length (records got.formula)) ⊎ (length c.args.buffer.now < record_size * length (records got.formula)) =
     elim c.then-count-gt-MAX_RECORDS.branch [
       | then-count-gt-MAX_RECORDS-via-then-count-gt-MAX_RECORDS w ↦ inl (omega (arith, n, w.if-count-gt-MAX_RECORDS))
@@ -58,10 +57,9 @@ returns c =
     let text = c.args.text.now in
     let i = c.loop-place.place in
     let r = c.loop-place.invariant in
-    let tape = c.in_ok-tape.tape in
-    let some : c.finish.result ≡ Some tape = grind (arith, common_steps) in
-    let got = finished text i _ tape r c.loop-place-test.false (ended text i _ r _ (Some tape) some c.finish.ensures) in
-    let all : c.records-records.result.now ≡ records got.formula = c.records-records.ensures ∙ copied text tape got (omega (arith, ap length c.records-records.ensures)) in
+    let some : c.finish.result ≡ Some tt = grind (arith, common_steps) in
+    let got = finished text i _ c.finish.new.self.tape r c.loop-place-test.false (ended text i _ c.finish.new.self r _ (Some tt) some c.finish.ensures) in
+    let all : c.records-records.result.now ≡ records got.formula = c.records-records.ensures ∙ copied text _ got (omega (arith, ap length c.records-records.ensures)) in
     let n = ap length all in (
       omega arith,
       (
